@@ -1,0 +1,18 @@
+// The executive: the start state, one step and a run over a list of choices, on lent words.
+
+// An agent's state, which goes in whole and comes back whole.
+pub struct Agent {
+    pub pos: u32,
+    pub regs: [u32; 4],
+}
+
+// The best message so far.
+pub enum Best {
+    Nothing,
+    Message {
+        late: u32,
+        agent: usize,
+        row: usize,
+        value: u32,
+    },
+}

@@ -1,0 +1,48 @@
+-- Words that are 0 from one place to another: one place more, and what it says of each place. Assumes nothing.
+use mathlib.Core.Path.{_≡_, refl, sym, ap, _∙_}
+use mathlib.Core.Bool.{Bool, true, false, _&&_}
+use mathlib.Core.List.{List, [], _∷_}
+use Prim.Native.Nat.{ℕ, zero, suc, _+_, _-_, _≤_, _<_}
+use native.Mathlib.Numerals.{add-one}
+use native.Mathlib.Omega.{arith}
+use lib.Dec.{eqb}
+use lib.ListN.{take, drop, getD}
+use lib.Seq.{getD-drop}
+use borrow.Author.Tests.{ne-eqb, eq-eqb}
+use Rattle.tables.proofs.Tests.{and-right, and-yes}
+use Rattle.tables.specs.Basics.{allZero, zeroFrom}
+
+and-assoc : (a b c : Bool) → (a && (b && c)) ≡ ((a && b) && c)
+and-assoc true b c = refl
+and-assoc false b c = refl
+
+more : (l : List ℕ) (n : ℕ) → allZero (take (suc n) l) ≡ (allZero (take n l) && eqb (getD l n 0) 0)
+unfolding allZero
+more [] zero = refl
+more [] (suc n) = refl
+more (x ∷ l) zero = and-true (eqb x 0)
+  where
+    and-true : (a : Bool) → (a && true) ≡ a
+    and-true true = refl
+    and-true false = refl
+more (x ∷ l) (suc n) = ap (λ (b : Bool). eqb x 0 && b) (more l n) ∙ and-assoc (eqb x 0) (allZero (take n l)) (eqb (getD l n 0) 0)
+
+pub zero-none : (ws : List ℕ) (i : ℕ) → zeroFrom ws i i ≡ true
+unfolding zeroFrom allZero
+zero-none ws i = let e : i - i ≡ 0 = omega arith in ap (λ (n : ℕ). allZero (take n (drop i ws))) e
+
+pub zero-more : (ws : List ℕ) (i k : ℕ) → i ≤ k → zeroFrom ws i (k + 1) ≡ (zeroFrom ws i k && eqb (getD ws k 0) 0)
+unfolding zeroFrom
+zero-more ws i k h =
+    let e : k + 1 - i ≡ suc (k - i) = omega arith in
+    let f : i + (k - i) ≡ k = omega arith in
+    ap (λ (n : ℕ). allZero (take n (drop i ws))) e
+    ∙ more (drop i ws) (k - i)
+    ∙ ap (λ (v : ℕ). allZero (take (k - i) (drop i ws)) && eqb v 0) (getD-drop i ws (k - i) 0 ∙ ap (λ (n : ℕ). getD ws n 0) f)
+
+-- the same, by what the word at k is
+pub zero-stop : (ws : List ℕ) (i k : ℕ) → i ≤ k → (getD ws k 0 ≡ 0 → ⊥) → zeroFrom ws i (k + 1) ≡ false
+zero-stop ws i k h n = zero-more ws i k h ∙ and-right (zeroFrom ws i k) _ (ne-eqb (getD ws k 0) 0 n)
+
+pub zero-go : (ws : List ℕ) (i k : ℕ) → i ≤ k → getD ws k 0 ≡ 0 → zeroFrom ws i (k + 1) ≡ zeroFrom ws i k
+zero-go ws i k h e = zero-more ws i k h ∙ and-yes (zeroFrom ws i k) _ (eq-eqb (getD ws k 0) 0 e)

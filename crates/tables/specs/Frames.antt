@@ -1,0 +1,30 @@
+-- Frames: what one line of a table's text says. Assumes nothing.
+use mathlib.Core.Bool.{cond}
+use mathlib.Core.List.{List, [], _∷_, map}
+use Prim.Native.Nat.{ℕ}
+use lib.Dec.{eqb}
+use Rattle.tables.specs.Lines.{lines, same, endLine, digitsLine, field}
+
+-- an agent's number with its four registers; an agent's number with the four words of a row; the end; neither
+pub data Frame : Type 0 where
+  opens : ℕ → List ℕ → Frame
+  gives : ℕ → List ℕ → Frame
+  ends : Frame
+  malformed : Frame
+
+-- the four words after the first byte and the agent: registers, or code word (op, x, y, n), k, early and late
+unfoldable pub fourWords : List ℕ → List ℕ
+fourWords l = field l 4 8 ∷ field l 12 8 ∷ field l 20 8 ∷ field l 28 8 ∷ []
+
+-- "malformed (2) when it lacks its newline, has another character, a first byte other than these, or a length other than 36, 36 or 2 digits"
+unfoldable pub frameOf : List ℕ → Frame
+frameOf l =
+    cond (same l endLine) ends
+    (cond (digitsLine 36 l)
+    (cond (eqb (field l 0 2) 0x00) (opens (field l 2 2) (fourWords l))
+    (cond (eqb (field l 0 2) 0x01) (gives (field l 2 2) (fourWords l)) malformed))
+    malformed)
+
+-- the frames of a text, one to a line
+unfoldable pub framesOf : List ℕ → List Frame
+framesOf text = map frameOf (lines text)

@@ -1,0 +1,10 @@
+-- What a reader of this crate must believe, lowest first.
+pub mod Basics
+pub mod Layout
+pub mod Family
+pub mod Rows
+pub mod Table
+pub mod Lines
+pub mod Frames
+pub mod Reader
+pub mod Calls

@@ -1,0 +1,32 @@
+// Tables of rows: their words, the rules of a row, the check of a table, and the reader of text frames.
+// Everything above relies only on what this crate promises.
+pub mod replies; // replies.rt: the numbers of the replies
+pub mod words; // words.rt: words that are 0
+pub mod rows; // rows.rt: a row of a table, its family, and replies 4 to 7
+
+// A row, taken apart.
+pub struct Row {
+    pub op: u32,
+    pub x: u32,
+    pub y: u32,
+    pub n: u32,
+    pub k: u32,
+    pub early: u32,
+    pub late: u32,
+}
+
+// The family that an op is in.
+pub enum Family {
+    Local,
+    Move,
+    Send,
+    Receive,
+    Unknown,
+}
+
+// A reply, with the number of the line that it tells, from 1, or 0.
+#[repr(C)]
+pub struct Told {
+    pub reply: u32,
+    pub line: u32,
+}

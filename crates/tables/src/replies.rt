@@ -1,0 +1,37 @@
+// The numbers of 01's replies, in one place for every crate.
+
+pub const ACCEPTED: u32 = 0;
+// A table or state buffer is too short.
+pub const TOO_SHORT: u32 = 1;
+
+pub const MALFORMED: u32 = 2;
+
+pub const OUT_OF_PLACE: u32 = 3;
+
+pub const BAD_ROW: u32 = 4;
+
+pub const BAD_TARGET: u32 = 5;
+
+pub const BAD_WINDOW: u32 = 6;
+
+pub const WINDOW_GOES_BACK: u32 = 7;
+
+pub const BAD_TABLE: u32 = 8;
+
+pub const BAD_STATE: u32 = 9;
+
+pub const NO_SUCH_AGENT: u32 = 10;
+
+pub const AGENT_ENDED: u32 = 11;
+
+pub const BEFORE_CLOCK: u32 = 12;
+
+pub const BEFORE_EARLY: u32 = 13;
+
+pub const STUCK: u32 = 14;
+
+pub const AFTER_LATE: u32 = 15;
+
+pub const ODD_CHOICES: u32 = 16;
+
+pub const INPUT_TOO_LONG: u32 = 17;
