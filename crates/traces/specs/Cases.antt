@@ -1,0 +1,48 @@
+-- 01's example, from input bytes to output bytes. Assumes nothing.
+use mathlib.Core.Bool.{Bool, true, false, _&&_, cond}
+use mathlib.Core.List.{List, [], _∷_, _++_}
+use Prim.Native.Nat.{ℕ}
+use lib.Dec.{T}
+use lib.ListN.{length, replicate}
+use lib.Count.{onesIn, trailingZeros}
+use Rattle.tables.specs.Basics.{first, every, allBelow, allZero, zeroFrom}
+use Rattle.tables.specs.Layout.{rowOf}
+use Rattle.tables.specs.Rows.{rowReply, wellFormed, fieldsFit, namesOf, within}
+use Rattle.tables.specs.Lines.{lines, same, endLine, hexDigit, allHex, number, field, digitsLine, newline}
+use Rattle.tables.specs.Frames.{frameOf, framesOf, fourWords}
+use Rattle.tables.specs.Reader.{inPlace, rowsGood, rowsNext, framesReply, loaded, tableOf}
+use Rattle.tables.specs.Calls.{readInto, framesInto}
+use Rattle.executive.specs.State.{startWords}
+use Rattle.executive.specs.Messages.{best, lookAgents, lookRows, look, visible, beats}
+use Rattle.executive.specs.Effect.{after, receive}
+use Rattle.executive.specs.Fit.{inTime, unfinished}
+use Rattle.executive.specs.Step.{choiceReply, stuck, canGo, accepted, withAgent, withSent}
+use Rattle.traces.specs.Input.{tableBytes, tableText, choiceLines, goodChoice, badChoice, badChoiceOf, choicesIn}
+use Rattle.traces.specs.Output.{hexChar, hexDigits, hexWords, stepLine, lastLine, traceFrom, traceChoices, traceTable, traceOf}
+
+-- a line of k digits
+line : (k m : ℕ) → List ℕ
+unfolding hexDigits hexChar
+line k m = hexDigits k m ++ (newline ∷ [])
+
+input : List ℕ
+unfolding line
+input =
+    line 36 0x000000000005000000000000000000000000
+    ++ (line 36 0x010020000000000000070000000100000003
+    ++ (line 36 0x000100000000000000000000000000000000
+    ++ (line 36 0x010130010000000000070000000400000008
+    ++ (endLine
+    ++ (line 12 0x020000000003
+    ++ line 12 0x020100000004)))))
+
+output : List ℕ
+unfolding line
+output =
+    line 46 0x0300010000000300000005000000000000000000000000
+    ++ (line 46 0x0301010000000400000000000000050000000000000000
+    ++ line 8 0xFE000002)
+
+example : T (same (traceOf input .bytes) output)
+unfolding input output line first every same startWords choiceReply stuck canGo inTime unfinished accepted withAgent withSent after receive best lookAgents lookRows look visible beats rowReply wellFormed fieldsFit namesOf within rowOf zeroFrom allZero allBelow readInto framesInto framesReply framesOf frameOf fourWords digitsLine allHex field number hexDigit lines inPlace rowsGood rowsNext loaded tableOf onesIn trailingZeros tableBytes tableText choiceLines goodChoice badChoice badChoiceOf choicesIn hexChar hexDigits hexWords stepLine lastLine traceFrom traceChoices traceTable traceOf
+example = tt

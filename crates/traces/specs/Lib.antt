@@ -1,0 +1,5 @@
+-- What a reader of this crate must believe, lowest first.
+pub mod Input
+pub mod Output
+pub mod Calls
+pub mod Cases
