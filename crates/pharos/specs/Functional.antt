@@ -1,0 +1,42 @@
+-- What a receive gets, and what a step leaves, is settled by the state before it and the time.
+use mathlib.Core.Path.{_≡_, refl, ap, ap₂, sym, _∙_}
+use mathlib.Core.Option.{Option, none, some}
+use mathlib.Core.Logic.{_⊎_, inl, inr, ⊎-elim, by-cases}
+use Prim.Native.Nat.{ℕ, _≤_, _<_}
+use native.Mathlib.Decide.{decLt}
+use native.Mathlib.Omega.{arith}
+use Rattle.pharos.specs.Published.{Messages, Dated, Types, instrOf, except, SystemState, CanReceive, Before, later, lower, higher, Received, nothing, found, exec, executes}
+
+less-or-more : {C : Type 0} (m n : ℕ) → (m < n → C) → (n < m → C) → (m ≡ n → C) → C
+less-or-more m n less more same = by-cases (decLt m n) less (λ p. by-cases (decLt n m) more (λ q. same (omega arith)))
+
+module _ {T : Types} where
+  open Types T using (State, instrAt)
+
+  -- Of two places one goes before the other, or they are one place.
+  pub before-total : (b i c j : ℕ) → Before T b i c j ⊎ Before T c j b i ⊎ ((b ≡ c) × (i ≡ j))
+  before-total b i c j =
+      less-or-more (instrAt b i .late) (instrAt c j .late) (λ l. inr (inl (later l))) (λ l. inl (later l))
+      (λ e. less-or-more b c (λ l. inl (lower (sym e) l)) (λ l. inr (inl (lower e l)))
+      (λ same. less-or-more i j (λ l. inr (inl (higher e (sym same) l))) (λ l. inl (higher (sym e) same l))
+      (λ p. inr (inr (same, p)))))
+
+  pub received-once : {msgs : Messages} {di : Dated State} {o p : Option ℕ} → Received T msgs di o → Received T msgs di p → o ≡ p
+  received-once (nothing no-one) (nothing no-one′) = refl
+  received-once (nothing no-one) (found m best) = absurd (no-one _ _ _ m)
+  received-once (found m best) (nothing no-one) = absurd (no-one _ _ _ m)
+  received-once {msgs} (found {b} {i} {v} m best) (found {b = c} {i = j} {v = w} n best′) =
+      ⊎-elim (λ x. absurd (best′ b i v m x))
+      (⊎-elim (λ x. absurd (best c j w n x)) (λ (p, q). sym (m .present) ∙ ap₂ msgs p q ∙ n .present))
+      (before-total b i c j)
+
+  -- Two system states are the same if their parts are.
+  pub same-system : {g h : SystemState T} → g .st ≡ h .st → g .msgs ≡ h .msgs → g .t ≡ h .t → g ≡ h
+  same-system {g} {h} p q r = λ k. record { st = p k; msgs = q k; t = r k }
+
+  -- The same agent's step at the same time leaves the same.
+  pub executes-once : {a : ℕ} {pre post post′ : SystemState T} → executes T a pre post → executes T a pre post′ → post .t ≡ post′ .t → post ≡ post′
+  executes-once {a} {pre} {post} {post′} e e′ same-time =
+      let same = received-once (e .received) (e′ .received) in
+      let after : Option ℕ → State × Messages = exec T a (pre .st a) (pre .msgs) in
+      same-system (e .st ∙ ap (λ o. except (pre .st) a (after o .0)) same ∙ sym (e′ .st)) (e .msgs ∙ ap (λ o. after o .1) same ∙ sym (e′ .msgs)) same-time

@@ -1,0 +1,10 @@
+-- The model of document 002 (PharOS), and what is proved of it.
+pub mod Published
+pub mod Functional
+-- Lists that grow, and the abstract model with its theorems.
+pub mod Tail
+pub mod Model
+pub mod Determinacy
+pub mod Progress
+pub mod Completion
+pub mod Coded
