@@ -7,7 +7,7 @@ use Prim.Native.Nat.{ℕ}
 use native.Mathlib.Decide.{ℕ-discrete}
 use Rattle.pharos.specs.Tail.{Prefix}
 use Rattle.pharos.specs.Model.{Model, Agent, System, Good, stepped, step, Run, start, _▸_, past, trace}
-use Rattle.pharos.specs.Determinacy.{history, determinacy-of-states, Ended, same-end}
+use Rattle.pharos.specs.Determinacy.{history, history-step, determinacy-of-states, Ended, same-end}
 
 pub record Coded (M : Model) : Type 1 where
   pub Words : Type 0
@@ -48,13 +48,12 @@ module _ {M : Model} (C : Coded M) where
   one-step : {g h : System M} {a t : ℕ} (r : Run g h) (ok : Good h a t) (b : ℕ) (w : Words) (z : List (Model.State M)) → system w ≡ step h a t
       → history (r ▸ ok) b ++ z ≡ history r b ++ ite (ℕ-discrete a b) (at w b ∷ z) z
   one-step {h = h} {a} {t} r ok b w z e =
-      go (ℕ-discrete a b) ∙ ap (λ (f : System M). history r b ++ ite (ℕ-discrete a b) (f .agent b .state ∷ z) z) (sym e)
+      ap (_++ z) (history-step r ok b) ∙ go _ (ℕ-discrete a b)
+      ∙ ap (λ (f : System M). history r b ++ ite (ℕ-discrete a b) (f .agent b .state ∷ z) z) (sym e)
     where
-      go : (d : Dec (a ≡ b))
-          → reverse (map (λ x. x .state) (ite d (stepped h b) (h .agent b) ∷ ite d (trace r b) (past r b))) ++ z
-          ≡ history r b ++ ite d (ite d (stepped h b) (h .agent b) .state ∷ z) z
-      go (yes p) = rw (reverse-cons, append-assoc)
-      go (no n) = refl
+      go : (x : Model.State M) (d : Dec (a ≡ b)) → ite d (history r b ++ (x ∷ [])) (history r b) ++ z ≡ history r b ++ ite d (x ∷ z) z
+      go x (yes p) = append-assoc (history r b) (x ∷ []) z
+      go x (no n) = refl
 
   pub walked : (cs : List (ℕ × ℕ)) (w : Words) → Fit w → {g h : System M} (r : Run g h) → system w ≡ h → Walked r w cs
   unfolding walk comes

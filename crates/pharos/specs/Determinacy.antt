@@ -1,7 +1,7 @@
 -- Determinacy: what each agent does, and what it has sent, does not depend on the order and the times of the steps.
 use mathlib.Core.Path.{_≡_, refl, ap, sym, subst, _∙_, fun-ext}
 use mathlib.Core.Bool.{true, false, true≢false}
-use mathlib.Core.List.{List, [], _∷_, map, reverse}
+use mathlib.Core.List.{List, [], _∷_, _++_, map, reverse, reverse-cons}
 use mathlib.Core.Logic.{_⊎_, inl, inr, ⊎-elim, ⊎-map, ite, by-cases}
 use Prim.Native.Nat.{ℕ, _≤_, _<_}
 use native.Mathlib.Decide.{ℕ-discrete, decLt}
@@ -110,6 +110,17 @@ module _ {M : Model} where
   -- The same of the states that an agent has been in, the oldest first.
   abbrev pub history : {g h : System M} → Run g h → ℕ → List (Model.State M)
   history r b = reverse (map (λ x. x .state) (trace r b))
+
+  -- A step adds to the history of its own agent.
+  pub history-step : {g h : System M} {a t : ℕ} (r : Run g h) (ok : Good h a t) (b : ℕ)
+      → history (r ▸ ok) b ≡ ite (ℕ-discrete a b) (history r b ++ (step h a t .agent b .state ∷ [])) (history r b)
+  history-step {h = h} {a} r ok b = go (ℕ-discrete a b)
+    where
+      go : (d : Dec (a ≡ b))
+          → reverse (map (λ x. x .state) (ite d (stepped h b) (h .agent b) ∷ ite d (trace r b) (past r b)))
+          ≡ ite d (history r b ++ (ite d (stepped h b) (h .agent b) .state ∷ [])) (history r b)
+      go (yes e) = reverse-cons (stepped h b .state) (map (λ x. x .state) (trace r b))
+      go (no n) = refl
 
   pub determinacy-of-states : {g h f : System M} (r : Run g h) (q : Run g f) (b : ℕ)
       → Prefix (history r b) (history q b) ⊎ Prefix (history q b) (history r b)
