@@ -1,0 +1,1 @@
+// The model and its theorems stand in specs/: there is no code.
