@@ -13,3 +13,5 @@ pub mod Coded
 pub mod Instance
 pub mod Behaviours
 pub mod Decoded
+-- What weaker rules would allow.
+pub mod Counterexamples
