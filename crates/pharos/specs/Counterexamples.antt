@@ -59,7 +59,7 @@ table visible e = record {
 -- Under the true rule the table meets the assumptions, so its behaviours never differ.
 pub exact-never-differs : (e : ℕ) → e < 8 → Differ (table exact e) → ⊥
 exact-never-differs e l = never (table exact e) (record {
-  instrOf-type = λ a s _ _. window a;
+  instrOf-type = λ a s _ _. let w = window a in omega arith;
   Update-monotonic = λ a s _ _ msgs got goes-on. absurd (true≢false (sym (one-row a s msgs got) ∙ goes-on));
   visible-cond = λ di dj. ltb-true (di .late) (dj .early);
 })
@@ -142,7 +142,7 @@ module _ (visible : Dated Local → Dated Local → Bool) (e : ℕ) (meet : e �
     start = begin;
     one = received-last;
     other = sent-last;
-    init = record { st = refl; msgs = λ b i. refl; t = refl };
+    init = record { st = refl; msgs = λ b i. refl; t = omega arith };
     run = append (append first (does begin 0 none (omega arith) refl (omega arith) (idle _))) (does sent-first 1 (some 5) (omega arith) refl (omega arith) there);
     run′ = append (append first (does begin 1 none (omega arith) refl (omega arith) empty)) (does received-first 0 none (omega arith) refl (omega arith) (idle _));
     ends = all-ended received-last refl refl;
