@@ -8,7 +8,8 @@ use native.Mathlib.Decide.{ℕ-discrete}
 use native.Mathlib.Omega.{arith}
 use lib.Dec.{leb}
 use borrow.Author.Tests.{ltb-true}
-use Rattle.pharos.specs.Published.{send, receive, msgSent, Dated, exact, Messages, except, Types, SystemState, Received, nothing, found, exec, executes, Assumptions, Init, Behaviour, first, append}
+use Rattle.pharos.specs.Published.{send, receive, msgSent, Dated, exact, Messages, Types, SystemState, GoodNextTime, Received, nothing, found, exec, Assumptions, Init, Behaviour, first, append}
+use Rattle.pharos.specs.Functional.{left, leaves}
 use Rattle.pharos.specs.Search.{not-before-itself}
 use Rattle.pharos.specs.Behaviours.{AllEnded, same-ends}
 
@@ -77,20 +78,9 @@ module _ (visible : Dated Local → Dated Local → Bool) (e : ℕ) (meet : e �
   abbrev T : Types
   T = table visible e
 
-  abbrev after : SystemState T → ℕ → Option ℕ → SystemState T
-  after g a got = record { st = except (g .st) a (exec T a (g .st a) (g .msgs) got .0); msgs = exec T a (g .st a) (g .msgs) got .1; t = 3 }
-
-  does : (g : SystemState T) (a : ℕ) (got : Option ℕ) → a < 2 → leb 1 (g .st a .position) ≡ false → g .t ≤ 3
-      → Received T (g .msgs) (row e a) got → executes T a g (after g a got)
-  does g a got real live clock received = record {
-    real = real;
-    live = live;
-    good = record { after = clock; begun = opens a; fits = λ b _ _. closes b };
-    got = got;
-    received = received;
-    st = refl;
-    msgs = refl;
-  }
+  -- At 3 both windows are open.
+  good : (g : SystemState T) (a : ℕ) → g .t ≤ 3 → GoodNextTime T g a 3
+  good g a clock = record { after = clock; begun = opens a; fits = λ b _ _. closes b }
     where
       opens : (a : ℕ) → row e a .early ≤ 3
       opens zero = omega arith
@@ -104,16 +94,16 @@ module _ (visible : Dated Local → Dated Local → Bool) (e : ℕ) (meet : e �
   begin = record { st = λ b. record { position = 0; register = 0 }; msgs = λ b i. none; t = 1 }
 
   abbrev sent-first : SystemState T
-  sent-first = after begin 0 none
+  sent-first = left T begin 0 none 3
 
   abbrev received-first : SystemState T
-  received-first = after begin 1 none
+  received-first = left T begin 1 none 3
 
   abbrev received-last : SystemState T
-  received-last = after sent-first 1 (some 5)
+  received-last = left T sent-first 1 (some 5) 3
 
   abbrev sent-last : SystemState T
-  sent-last = after received-first 0 none
+  sent-last = left T received-first 0 none 3
 
   -- A send awaits nothing, an empty pool has nothing, and after the send there is one message.
   idle : (msgs : Messages) → Received T msgs sending none
@@ -143,8 +133,10 @@ module _ (visible : Dated Local → Dated Local → Bool) (e : ℕ) (meet : e �
     one = received-last;
     other = sent-last;
     init = record { st = refl; msgs = λ b i. refl; t = omega arith };
-    run = append (append first (does begin 0 none (omega arith) refl (omega arith) (idle _))) (does sent-first 1 (some 5) (omega arith) refl (omega arith) there);
-    run′ = append (append first (does begin 1 none (omega arith) refl (omega arith) empty)) (does received-first 0 none (omega arith) refl (omega arith) (idle _));
+    run = append (append first (leaves T begin 0 none 3 (omega arith) refl (good begin 0 (omega arith)) (idle _)))
+        (leaves T sent-first 1 (some 5) 3 (omega arith) refl (good sent-first 1 (omega arith)) there);
+    run′ = append (append first (leaves T begin 1 none 3 (omega arith) refl (good begin 1 (omega arith)) empty))
+        (leaves T received-first 0 none 3 (omega arith) refl (good received-first 0 (omega arith)) (idle _));
     ends = all-ended received-last refl refl;
     ends′ = all-ended sent-last refl refl;
     agent = 1;

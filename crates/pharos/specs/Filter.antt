@@ -13,6 +13,13 @@ pub data Unstutters {A : Type 0} : List A → List A → Type 0 where
   again : {x y : A} {s u : List A} → x ≡ y → Unstutters (y ∷ s) u → Unstutters (x ∷ y ∷ s) u
   changed : {x y : A} {s u : List A} → (x ≡ y → ⊥) → Unstutters (y ∷ s) u → Unstutters (x ∷ y ∷ s) (x ∷ u)
 
+pub unstutters-once : {A : Type 0} {s u v : List A} → Unstutters s u → Unstutters s v → u ≡ v
+unstutters-once single single = refl
+unstutters-once (again e p) (again f q) = unstutters-once p q
+unstutters-once (again e p) (changed n q) = absurd (n e)
+unstutters-once (changed n p) (again e q) = absurd (n e)
+unstutters-once (changed {x} n p) (changed m q) = ap (x ∷_) (unstutters-once p q)
+
 module _ (T : Types) where
   -- history, the latest first: what was, and with what is.
   abbrev pub earlier : {g h : SystemState T} → Behaviour T g h → List (SystemState T)

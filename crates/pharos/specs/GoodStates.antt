@@ -4,8 +4,9 @@ use mathlib.Core.Bool.{true, false}
 use mathlib.Core.Logic.{_⊎_, inl, inr, ⊎-elim}
 use Prim.Native.Nat.{ℕ, _≤_, _<_}
 use native.Mathlib.Omega.{arith}
-use Rattle.pharos.specs.Published.{Types, instrOf, SystemState, GoodSystemState, executes, Assumptions, Init}
-use Rattle.pharos.specs.Model.{Good}
+use Rattle.pharos.specs.Published.{Types, instrOf, SystemState, GoodSystemState, executes, Assumptions, Init, Next}
+use Rattle.pharos.specs.Functional.{left, leaves}
+use Rattle.pharos.specs.Search.{receives}
 use Rattle.pharos.specs.Progress.{Ready, least, progress, ready-step}
 use Rattle.pharos.specs.Instance.{model, system, executes-is-step}
 use Rattle.pharos.specs.Behaviours.{AllEnded}
@@ -29,3 +30,9 @@ module _ (T : Types) (ok : Assumptions T) where
       (let (a, t, may) = progress (system T ok s) inv (λ a u r l. let w = ok .instrOf-type a u r l in omega arith) b real live in
       (a, t, may .real, may .live, record { after = may .after; begun = may .begun; fits = may .fits })))
       (least (λ b. Types.ended T b (s .st b)) (λ b. 0) (Types.agents T))
+
+-- A good state has a next one.
+pub good-next : (T : Types) (s : SystemState T) → GoodSystemState T s → (post : SystemState T) × Next T s post
+good-next T s (a, t, real, live, good) =
+    let (got, received) = receives T (s .msgs) (instrOf T a (s .st a)) in
+    (left T s a got t, (a, leaves T s a got t real live good received))

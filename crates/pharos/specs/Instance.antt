@@ -7,7 +7,7 @@ use Prim.Native.Nat.{ℕ, _≤_, _<_}
 use native.Mathlib.Decide.{ℕ-discrete}
 use native.Mathlib.Omega.{arith}
 use Rattle.pharos.specs.Published.{Instruction, local, send, receive, Messages, except, Types, instrOf, SystemState, GoodNextTime, CanReceive, Received, execIns, exec, executes, Assumptions}
-use Rattle.pharos.specs.Functional.{received-once, received-alike, exec-state, same-system}
+use Rattle.pharos.specs.Functional.{received-once, received-alike, exec-state, same-system, left}
 use Rattle.pharos.specs.Search.{receives}
 use Rattle.pharos.specs.Model.{Model, Agent, System, Good, step, stepped}
 
@@ -123,9 +123,7 @@ module _ (T : Types) (ok : Assumptions T) where
 
   -- The system state after agent a's step.
   abbrev moved : SystemState T → ℕ → ℕ → SystemState T
-  moved g a t =
-      let after : State × Messages = exec T a (g .st a) (g .msgs) (picked T a (g .st a) (g .msgs)) in
-      record { st = except (g .st) a (after .0); msgs = after .1; t = t }
+  moved g a t = left T g a (picked T a (g .st a) (g .msgs)) t
 
   moved-is-step : (g : SystemState T) (a t : ℕ) → system (moved g a t) ≡ step (system g) a t
   moved-is-step g a t =

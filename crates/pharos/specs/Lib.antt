@@ -17,3 +17,4 @@ pub mod Filter
 pub mod Decoded
 -- What weaker rules would allow.
 pub mod Counterexamples
+pub mod Backwards
