@@ -1,12 +1,12 @@
 -- Records of words that stand for systems: what is asked of them, and what they then have, demand 3 on words among it.
 use mathlib.Core.Path.{_≡_, refl, ap, sym, subst, subst₂, _∙_}
 use mathlib.Core.Bool.{Bool, true, false, true≢false}
-use mathlib.Core.List.{List, [], _∷_, _++_, map, reverse, reverse-cons, append-nil, append-assoc}
+use mathlib.Core.List.{List, [], _∷_, _++_, append-nil, append-assoc}
 use mathlib.Core.Logic.{_⊎_, ite}
 use Prim.Native.Nat.{ℕ}
 use native.Mathlib.Decide.{ℕ-discrete}
 use Rattle.pharos.specs.Tail.{Prefix}
-use Rattle.pharos.specs.Model.{Model, Agent, System, Good, stepped, step, Run, start, _▸_, past, trace}
+use Rattle.pharos.specs.Model.{Model, System, Good, step, Run, start, _▸_}
 use Rattle.pharos.specs.Determinacy.{history, history-step, determinacy-of-states, Ended, same-end}
 
 pub record Coded (M : Model) : Type 1 where

@@ -1,7 +1,7 @@
 -- Why visibility asks for late < early: two weaker rules, each with two behaviours of one table that end in different states.
 -- The rule is the constant `visible` of the published model, and nothing else in the model is changed.
 use mathlib.Core.Path.{_≡_, refl, ap, sym, _∙_}
-use mathlib.Core.Bool.{Bool, true, false, true≢false}
+use mathlib.Core.Bool.{Bool, true, true≢false}
 use mathlib.Core.Option.{Option, none, some, Option·none-ne-some, Option·getD}
 use Prim.Native.Nat.{ℕ, zero, suc, _≤_, _<_}
 use native.Mathlib.Decide.{ℕ-discrete}

@@ -1,9 +1,9 @@
 -- What a receive gets, and what a step leaves, is settled by the state before it and the time.
 use mathlib.Core.Path.{_≡_, refl, ap, ap₂, sym, _∙_, fun-ext}
 use mathlib.Core.Bool.{false}
-use mathlib.Core.Option.{Option, none, some}
+use mathlib.Core.Option.{Option}
 use mathlib.Core.Logic.{_⊎_, inl, inr, ⊎-elim, by-cases, if-pos}
-use Prim.Native.Nat.{ℕ, _≤_, _<_}
+use Prim.Native.Nat.{ℕ, _<_}
 use native.Mathlib.Decide.{decLt, ℕ-discrete}
 use native.Mathlib.Omega.{arith}
 use Rattle.pharos.specs.Published.{Instruction, local, send, receive, Messages, Dated, Types, instrOf, except, SystemState, GoodNextTime, CanReceive, Before, later, lower, higher, Received, nothing, found, execIns, exec, executes, Init}

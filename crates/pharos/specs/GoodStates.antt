@@ -1,6 +1,6 @@
 -- 002's invariant that no deadline is missed: it holds at the start, every step keeps it, and where it holds some agent can go on, or all have ended.
-use mathlib.Core.Path.{_≡_, ap, sym, subst}
-use mathlib.Core.Bool.{true, false}
+use mathlib.Core.Path.{_≡_, sym, subst}
+use mathlib.Core.Bool.{false}
 use mathlib.Core.Logic.{_⊎_, inl, inr, ⊎-elim}
 use Prim.Native.Nat.{ℕ, _≤_, _<_}
 use native.Mathlib.Omega.{arith}
@@ -8,7 +8,7 @@ use Rattle.pharos.specs.Published.{Types, instrOf, SystemState, GoodSyst
 use Rattle.pharos.specs.Functional.{left, leaves}
 use Rattle.pharos.specs.Search.{receives}
 use Rattle.pharos.specs.Progress.{Ready, least, progress, ready-step}
-use Rattle.pharos.specs.Instance.{model, system, executes-is-step}
+use Rattle.pharos.specs.Instance.{system, executes-is-step}
 use Rattle.pharos.specs.Behaviours.{AllEnded}
 
 -- Inv, its third line. 01: an ended agent has no window.
