@@ -79,7 +79,7 @@ unknown-row r h =
       apart (r .op) 0x10 tt h,
       apart (r .op) 0x11 tt h,
       apart (r .op) 0x20 tt h,
-      apart (r .op) 0x30 tt h
+      apart (r .op) 0x30 tt h,
     )
 
 -- the op of a well-formed row is in 01's table

@@ -1,4 +1,5 @@
 pub mod Tests
 pub mod Passed
+pub mod RowReplies
 pub mod Zeros
 pub mod Families
