@@ -3,3 +3,4 @@ pub mod Passed
 pub mod RowReplies
 pub mod Zeros
 pub mod Families
+pub mod Loops
