@@ -4,3 +4,4 @@ pub mod RowReplies
 pub mod Zeros
 pub mod Families
 pub mod Loops
+pub mod Good
