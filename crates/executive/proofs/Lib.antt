@@ -5,3 +5,5 @@ pub mod Choice
 pub mod Fitting
 pub mod Start
 pub mod Fits
+pub mod Runs
+pub mod OneByOne
