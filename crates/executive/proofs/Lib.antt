@@ -7,3 +7,4 @@ pub mod Start
 pub mod Fits
 pub mod Runs
 pub mod OneByOne
+pub mod Taken
