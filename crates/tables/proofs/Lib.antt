@@ -1,2 +1,4 @@
 pub mod Tests
+pub mod Passed
 pub mod Zeros
+pub mod Families
