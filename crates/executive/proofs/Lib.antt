@@ -6,3 +6,4 @@ pub mod Fitting
 pub mod Start
 pub mod Fits
 pub mod Effects
+pub mod Deadline
