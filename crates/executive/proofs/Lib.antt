@@ -8,3 +8,5 @@ pub mod Fits
 pub mod Runs
 pub mod OneByOne
 pub mod Taken
+pub mod Effects
+pub mod Deadline

@@ -1,4 +1,8 @@
 // The executive: the start state, one step and a run over a list of choices, on lent words.
+mod agents; // agents.rt: what a row does to its agent, one method for each family
+mod messages; // messages.rt: the best of the messages that a row sees
+mod deadlines; // deadlines.rt: the deadline of all agents, and whether any agent can go
+mod stepping; // stepping.rt: the reply to a choice, and its effect
 
 // An agent's state, which goes in whole and comes back whole.
 pub struct Agent {
