@@ -11,7 +11,8 @@ use native.Mathlib.Omega.{arith}
 use lib.Dec.{leb}
 use borrow.Author.Tests.{ltb-true}
 use Rattle.pharos.specs.Published.{local, send, msgSent, Dated, exact, Types, instrOf, SystemState, GoodNextTime, Received, nothing, found, Init, Behaviour, first, append, filter}
-use Rattle.pharos.specs.Functional.{left, leaves}
+use Rattle.pharos.specs.Functional.{left}
+use Rattle.pharos.specs.GoodStates.{leaves}
 use Rattle.pharos.specs.Search.{not-before-itself}
 use Rattle.pharos.specs.Tail.{Prefix}
 use Rattle.pharos.specs.Counterexamples.{Local, receiving}

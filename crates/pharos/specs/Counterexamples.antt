@@ -9,7 +9,8 @@ use native.Mathlib.Omega.{arith}
 use lib.Dec.{leb}
 use borrow.Author.Tests.{ltb-true}
 use Rattle.pharos.specs.Published.{send, receive, msgSent, Dated, exact, Messages, Types, SystemState, GoodNextTime, Received, nothing, found, exec, Assumptions, Init, Behaviour, first, append}
-use Rattle.pharos.specs.Functional.{left, leaves}
+use Rattle.pharos.specs.Functional.{left}
+use Rattle.pharos.specs.GoodStates.{leaves}
 use Rattle.pharos.specs.Search.{not-before-itself}
 use Rattle.pharos.specs.Behaviours.{AllEnded, same-ends}
 

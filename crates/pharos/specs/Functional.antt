@@ -1,12 +1,11 @@
 -- What a receive gets, and what a step leaves, is settled by the state before it and the time.
 use mathlib.Core.Path.{_≡_, refl, ap, ap₂, sym, _∙_, fun-ext}
-use mathlib.Core.Bool.{false}
 use mathlib.Core.Option.{Option}
 use mathlib.Core.Logic.{_⊎_, inl, inr, ⊎-elim, by-cases, if-pos}
 use Prim.Native.Nat.{ℕ, _<_}
 use native.Mathlib.Decide.{decLt, ℕ-discrete}
 use native.Mathlib.Omega.{arith}
-use Rattle.pharos.specs.Published.{Instruction, local, send, receive, Messages, Dated, Types, instrOf, except, SystemState, GoodNextTime, CanReceive, Before, later, lower, higher, Received, nothing, found, execIns, exec, executes, Init}
+use Rattle.pharos.specs.Published.{Instruction, local, send, receive, Messages, Dated, Types, instrOf, except, SystemState, CanReceive, Before, later, lower, higher, Received, nothing, found, execIns, exec, executes, Init}
 
 less-or-more : {C : Type 0} (m n : ℕ) → (m < n → C) → (n < m → C) → (m ≡ n → C) → C
 less-or-more m n less more same = by-cases (decLt m n) less (λ p. by-cases (decLt n m) more (λ q. same (omega arith)))
@@ -25,16 +24,11 @@ module _ (T : Types) where
       go (send msg value upd) = refl
       go (receive msg bupd) = refl
 
-  -- The system state that agent a leaves at time t, if it gets `got`; and that it executes so where it may.
+  -- The system state that agent a leaves at time t, if it gets `got`.
   abbrev pub left : SystemState T → ℕ → Option ℕ → ℕ → SystemState T
   left g a got t =
       let after : Types.State T × Messages = exec T a (g .st a) (g .msgs) got in
       record { st = except (g .st) a (after .0); msgs = after .1; t = t }
-
-  pub leaves : (g : SystemState T) (a : ℕ) (got : Option ℕ) (t : ℕ) → a < Types.agents T → Types.ended T a (g .st a) ≡ false
-      → GoodNextTime T g a t → Received T (g .msgs) (instrOf T a (g .st a)) got → executes T a g (left g a got t)
-  leaves g a got t real live good received =
-      record { real = real; live = live; good = good; got = got; received = received; st = refl; msgs = refl }
 
 module _ {T : Types} where
   open Types T using (State, instrAt)

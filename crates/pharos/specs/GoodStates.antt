@@ -1,11 +1,12 @@
 -- 002's invariant that no deadline is missed: it holds at the start, every step keeps it, and where it holds some agent can go on, or all have ended.
-use mathlib.Core.Path.{_≡_, sym, subst}
+use mathlib.Core.Path.{_≡_, refl, sym, subst}
 use mathlib.Core.Bool.{false}
+use mathlib.Core.Option.{Option}
 use mathlib.Core.Logic.{_⊎_, inl, inr, ⊎-elim}
 use Prim.Native.Nat.{ℕ, _≤_, _<_}
 use native.Mathlib.Omega.{arith}
-use Rattle.pharos.specs.Published.{Types, instrOf, SystemState, GoodSystemState, executes, Assumptions, Init, Next}
-use Rattle.pharos.specs.Functional.{left, leaves}
+use Rattle.pharos.specs.Published.{Types, instrOf, SystemState, GoodNextTime, GoodSystemState, Received, executes, Assumptions, Init, Next}
+use Rattle.pharos.specs.Functional.{left}
 use Rattle.pharos.specs.Search.{receives}
 use Rattle.pharos.specs.Progress.{Ready, least, progress, ready-step}
 use Rattle.pharos.specs.Instance.{system, executes-is-step}
@@ -30,6 +31,12 @@ module _ (T : Types) (ok : Assumptions T) where
       (let (a, t, may) = progress (system T ok s) inv (λ a u r l. let w = ok .instrOf-type a u r l in omega arith) b real live in
       (a, t, may .real, may .live, record { after = may .after; begun = may .begun; fits = may .fits })))
       (least (λ b. Types.ended T b (s .st b)) (λ b. 0) (Types.agents T))
+
+-- An agent that may execute does.
+pub leaves : (T : Types) (g : SystemState T) (a : ℕ) (got : Option ℕ) (t : ℕ) → a < Types.agents T → Types.ended T a (g .st a) ≡ false
+    → GoodNextTime T g a t → Received T (g .msgs) (instrOf T a (g .st a)) got → executes T a g (left T g a got t)
+leaves T g a got t real live good received =
+    record { real = real; live = live; good = good; got = got; received = received; st = refl; msgs = refl }
 
 -- A good state has a next one.
 pub good-next : (T : Types) (s : SystemState T) → GoodSystemState T s → (post : SystemState T) × Next T s post
