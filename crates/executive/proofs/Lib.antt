@@ -8,3 +8,4 @@ pub mod Fits
 pub mod Runs
 pub mod OneByOne
 pub mod Taken
+pub mod Stuck

@@ -2,18 +2,18 @@
 -- Assumes nothing.
 use mathlib.Core.Path.{_≡_, refl, sym, ap, ap₂, subst, _∙_}
 use mathlib.Core.Logic.{_≢_}
-use mathlib.Core.Bool.{Bool, true, false, not, _&&_, cond}
+use mathlib.Core.Bool.{Bool, true, false, not, cond}
 use mathlib.Core.List.{List, [], _∷_, _++_}
 use Prim.Native.Nat.{ℕ, zero, suc, suc-le-suc, _+_, _<_, _≤_}
 use native.Mathlib.Omega.{arith}
-use lib.Dec.{ltb, eqb}
+use lib.Dec.{ltb}
 use lib.ListN.{length, take, drop, length-take, length-append}
 use lib.Seq.{take-at, drop-at}
-use borrow.Author.Tests.{ltb-false, le-ltb, eqb-false, not-true, not-false}
-use Rattle.tables.specs.Basics.{first, _⇒_, Rule}
+use borrow.Author.Tests.{ltb-false, le-ltb, not-false}
+use Rattle.tables.specs.Basics.{first}
 use Rattle.tables.specs.Layout.{tableWords}
 use Rattle.tables.specs.Table.{goodTable}
-use Rattle.tables.proofs.Passed.{and-1, and-2, passed}
+use Rattle.tables.proofs.Passed.{passed}
 use Rattle.executive.specs.State.{stateWords, startWords}
 use Rattle.executive.specs.Fit.{fits}
 use Rattle.executive.specs.Step.{choiceReply, accepted}
@@ -21,7 +21,7 @@ use Rattle.executive.specs.Run.{RunOutcome, ended, runFrom}
 use Rattle.executive.specs.Calls.{tablePart, statePart, pastState, Outcome, outcome, startReply, startInto, stepReply, stepInto, runRefusal, runInto, before}
 use Rattle.executive.proofs.Good.{few-agents}
 use Rattle.executive.proofs.After.{accepted-length}
-use Rattle.executive.proofs.Choice.{allowed}
+use Rattle.executive.proofs.Choice.{allowed, lacking}
 use Rattle.executive.proofs.Start.{start-length}
 use Rattle.executive.proofs.Fits.{start-fits, accepted-fits}
 use Rattle.executive.proofs.Runs.{run-go, run-stop, count-from-start}
@@ -266,17 +266,6 @@ module _ (tb : List ℕ) where
         rw (ran tb st cs h) (count-from-start (tablePart tb) (not-false _ (clear 3)) n cs)
 
 -- ---- 9
-
--- no rule of the list has the number n
-abbrev lacks : ℕ → List Rule → Bool
-lacks n [] = not (eqb 0 n)
-lacks n ((b ⇒ r) ∷ rs) = not (eqb r n) && lacks n rs
-
-lacking : (n : ℕ) (rs : List Rule) → lacks n rs ≡ true → first rs ≢ n
-unfolding first
-lacking n [] t e = eqb-false 0 n (not-true (eqb 0 n) t) e
-lacking n ((true ⇒ r) ∷ rs) t e = eqb-false r n (not-true (eqb r n) (and-1 (not (eqb r n)) (lacks n rs) t)) e
-lacking n ((false ⇒ r) ∷ rs) t e = lacking n rs (and-2 (not (eqb r n)) (lacks n rs) t) e
 
 choice-not-nine : (tb st : List ℕ) (a t : ℕ) → choiceReply tb st a t ≢ 9
 unfolding choiceReply
