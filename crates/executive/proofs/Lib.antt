@@ -9,3 +9,4 @@ pub mod Runs
 pub mod OneByOne
 pub mod Taken
 pub mod Stuck
+pub mod Depends
