@@ -10,3 +10,4 @@ pub mod OneByOne
 pub mod Taken
 pub mod Stuck
 pub mod Depends
+pub mod Bits
