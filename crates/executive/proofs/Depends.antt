@@ -18,7 +18,7 @@ use Rattle.executive.specs.Fit.{fits, current}
 use Rattle.executive.specs.Step.{choiceReply, accepted}
 use Rattle.executive.specs.declared.Agent.{Agent}
 use Rattle.executive.specs.declared.Best.{Best}
-use Rattle.executive.proofs.Good.{few-agents}
+use Rattle.tables.proofs.Good.{few}
 use Rattle.executive.proofs.After.{next, accepted-self}
 use Rattle.executive.proofs.Choice.{allowed}
 use Rattle.executive.proofs.Fitting.{Fits, fits-says}
@@ -77,7 +77,7 @@ depends tb st st′ good long long′ fit fit′ a t t′ c c′ e s =
     ∙ sym (accepted-self tb st′ a t′ long′ low)
   where
     low : a < 16
-    low = let h = allowed tb st a t c .agent in omega (arith, few-agents tb good)
+    low = let h = allowed tb st a t c .agent in omega (arith, few tb good)
 
     seen : (b i : ℕ) → b < agents tb → i < 32 → Dec (i < rows tb b) → visible tb (pool st) (current tb st a) b i ≡ visible tb (pool st′) (current tb st a) b i
     seen b i hb hi (yes l) = s .seen b i hb l

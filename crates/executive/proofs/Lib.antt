@@ -1,5 +1,4 @@
 pub mod Lists
-pub mod Good
 pub mod After
 pub mod Choice
 pub mod Fitting

@@ -19,7 +19,7 @@ use Rattle.executive.specs.Fit.{fits}
 use Rattle.executive.specs.Step.{choiceReply, accepted}
 use Rattle.executive.specs.Run.{RunOutcome, ended, runFrom}
 use Rattle.executive.specs.Calls.{tablePart, statePart, pastState, Outcome, outcome, startReply, startInto, stepReply, stepInto, runRefusal, runInto, before}
-use Rattle.executive.proofs.Good.{few-agents}
+use Rattle.tables.proofs.Good.{few}
 use Rattle.executive.proofs.After.{accepted-length}
 use Rattle.executive.proofs.Choice.{allowed, lacking}
 use Rattle.executive.proofs.Start.{start-length}
@@ -106,7 +106,7 @@ module _ (tb : List ℕ) where
     accepted-long : length (accepted (tablePart tb) (statePart st) a t) ≡ 1105
     accepted-long =
         let h = allowed (tablePart tb) (statePart st) a t c .agent in
-        let n = few-agents (tablePart tb) (r .good) in
+        let n = few (tablePart tb) (r .good) in
         let l = r .state in
         accepted-length (tablePart tb) (statePart st) a t (simp length-take (omega arith)) (omega arith)
 
@@ -153,7 +153,7 @@ module _ (tb : List ℕ) where
         next-long : choiceReply (tablePart tb) w a t ≡ 0 → length (accepted (tablePart tb) w a t) ≡ 1105
         next-long h =
             let l = allowed (tablePart tb) w a t h .agent in
-            let m = few-agents (tablePart tb) good in
+            let m = few (tablePart tb) good in
             accepted-length (tablePart tb) w a t long (omega arith)
 
         -- the step's answer, in terms of the state's own words

@@ -15,7 +15,7 @@ use Rattle.tables.proofs.Passed.{and-1, and-2, all-below}
 use Rattle.executive.specs.State.{clock, pos}
 use Rattle.executive.specs.Fit.{unfinished, current, inTime}
 use Rattle.executive.specs.Step.{canGo, stuck, choiceReply}
-use Rattle.executive.proofs.Good.{window}
+use Rattle.tables.proofs.Good.{window}
 use Rattle.executive.proofs.Choice.{Allowed, in-time, not-stuck, lacking, reply-10, reply-11}
 use Rattle.executive.proofs.Fitting.{Fits}
 
