@@ -1,22 +1,22 @@
 -- The start state fits its table, and an accepted step keeps the fit. Assumes nothing.
-use mathlib.Core.Path.{_≡_, refl, sym, ap, subst, _∙_}
-use mathlib.Core.Logic.{_≢_, _⊎_, inl, inr}
-use mathlib.Core.Bool.{Bool, true}
+use mathlib.Core.Path.{_≡_, sym, subst, _∙_}
+use mathlib.Core.Logic.{_⊎_, inl, inr}
+use mathlib.Core.Bool.{true}
 use mathlib.Core.List.{List}
-use Prim.Native.Nat.{ℕ, _+_, _*_, _-_, _<_, _≤_}
-use native.Mathlib.Decide.{decLt, ℕ-discrete}
+use Prim.Native.Nat.{ℕ, _<_, _≤_}
+use native.Mathlib.Decide.{ℕ-discrete}
 use native.Mathlib.Omega.{arith}
-use lib.ListN.{length, getD}
-use Rattle.tables.specs.Layout.{agents, rows, row, startPlace}
+use lib.ListN.{length}
+use Rattle.tables.specs.Layout.{agents, rows}
 use Rattle.tables.specs.Table.{goodTable}
-use Rattle.executive.specs.State.{clock, pos, mark, value, posPlace, regPlace, markPlace, valuePlace, startWords}
+use Rattle.executive.specs.State.{clock, pos, mark, value, posPlace, markPlace, valuePlace, startWords}
 use Rattle.executive.specs.Fit.{fits, current}
 use Rattle.executive.specs.Step.{choiceReply, accepted}
 use Rattle.tables.proofs.Good.{few, few-rows, table-facts, target, window, late-bound, late-climbs}
-use Rattle.executive.proofs.After.{accepted-length, accepted-other, accepted-clock, accepted-pos, accepted-pos-other, pos-rises, pos-within, sent-own-mark, mark-away, value-away, mark-unsent, value-unsent}
+use Rattle.executive.proofs.After.{accepted-other, accepted-clock, accepted-pos-other, pos-rises, pos-within, sent-own-mark, mark-away, value-away, mark-unsent, value-unsent}
 use Rattle.executive.proofs.Choice.{InTime, Allowed, allowed}
 use Rattle.executive.proofs.Fitting.{Fits, Unsent, Sent, fits-says, fits-holds}
-use Rattle.executive.proofs.Start.{start-length, start-clock, start-low, start-register, start-high}
+use Rattle.executive.proofs.Start.{start-clock, start-low, start-register, start-high}
 
 module _ (tb : List ℕ) (good : goodTable tb ≡ true) (long : length tb ≡ 2129) where
   long-enough : 2129 ≤ length tb

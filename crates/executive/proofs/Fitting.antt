@@ -1,21 +1,21 @@
 -- What a state that fits its table says, place by place, and back. Assumes nothing.
-use mathlib.Core.Path.{_≡_, refl, sym, ap, subst, _∙_}
+use mathlib.Core.Path.{_≡_, refl}
 use mathlib.Core.Logic.{_≢_, _⊎_, inl, inr, ⊎-elim}
 use mathlib.Core.Bool.{Bool, true, false, _&&_, _||_}
-use mathlib.Core.List.{List, [], _∷_}
-use Prim.Native.Nat.{ℕ, zero, suc, _+_, _*_, _-_, _<_, _≤_}
-use native.Mathlib.Decide.{decLt, decLe, ℕ-discrete}
+use mathlib.Core.List.{List}
+use Prim.Native.Nat.{ℕ, _+_, _*_, _-_, _<_, _≤_}
+use native.Mathlib.Decide.{decLt}
 use native.Mathlib.Omega.{arith}
-use lib.Dec.{ltb, leb, eqb}
-use lib.ListN.{length, getD}
+use lib.Dec.{eqb}
+use lib.ListN.{getD}
 use borrow.Author.Tests.{leb-true, le-leb, eqb-true, eq-eqb}
-use Rattle.tables.specs.Basics.{every, allBelow, zeroFrom}
+use Rattle.tables.specs.Basics.{every}
 use Rattle.tables.specs.Layout.{agents, rows, row}
 use Rattle.tables.specs.Table.{goodTable}
 use Rattle.tables.proofs.Tests.{and-both, or-left, or-right}
 use Rattle.tables.proofs.Passed.{and-1, and-2, each, below, all-below}
 use Rattle.executive.specs.State.{clock, pos, mark, value, posPlace, regPlace, markPlace, valuePlace}
-use Rattle.executive.specs.Fit.{fits, goodPlaces, goodMark, unfinished, inTime, current}
+use Rattle.executive.specs.Fit.{fits, goodPlaces, goodMark}
 use Rattle.tables.proofs.Zeros.{zero-at, zero-all}
 use Rattle.tables.proofs.Good.{few-rows}
 use Rattle.executive.proofs.Choice.{InTime, in-time, time-in}

@@ -1,13 +1,13 @@
 -- What a run replies and leaves is what its steps made one by one reply and leave, starting from `start`; and no step after another is refused with 9.
 -- Assumes nothing.
-use mathlib.Core.Path.{_≡_, refl, sym, ap, ap₂, subst, _∙_}
+use mathlib.Core.Path.{_≡_, refl, sym, ap, ap₂, _∙_}
 use mathlib.Core.Logic.{_≢_}
 use mathlib.Core.Bool.{Bool, true, false, not, cond}
 use mathlib.Core.List.{List, [], _∷_, _++_}
-use Prim.Native.Nat.{ℕ, zero, suc, suc-le-suc, _+_, _<_, _≤_}
+use Prim.Native.Nat.{ℕ, zero, suc, suc-le-suc, _+_, _≤_}
 use native.Mathlib.Omega.{arith}
 use lib.Dec.{ltb}
-use lib.ListN.{length, take, drop, length-take, length-append}
+use lib.ListN.{length, length-take, length-append}
 use lib.Seq.{take-at, drop-at}
 use borrow.Author.Tests.{ltb-false, le-ltb, not-false}
 use Rattle.tables.specs.Basics.{first}

@@ -1,5 +1,5 @@
 -- A run accepts at most 512 steps: each raises its agent's position, and there are at most 16 agents of 32 rows. Assumes nothing.
-use mathlib.Core.Path.{_≡_, refl, sym, ap, _∙_}
+use mathlib.Core.Path.{_≡_, refl, sym, ap}
 use mathlib.Core.Bool.{true}
 use mathlib.Core.List.{List, [], _∷_}
 use Prim.Native.Nat.{ℕ, zero, suc, _+_, _*_, _<_, _≤_}
@@ -7,7 +7,7 @@ use native.Mathlib.Decide.{ℕ-discrete}
 use native.Mathlib.Nat.{not-suc-le-zero}
 use native.Mathlib.Omega.{arith}
 use lib.ListN.{length}
-use Rattle.tables.specs.Layout.{agents, rows}
+use Rattle.tables.specs.Layout.{agents}
 use Rattle.tables.specs.Table.{goodTable}
 use Rattle.executive.specs.State.{pos, startWords}
 use Rattle.executive.specs.Step.{choiceReply, accepted}
