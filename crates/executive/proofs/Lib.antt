@@ -5,7 +5,9 @@ pub mod Fitting
 pub mod Start
 pub mod Fits
 pub mod Runs
+pub mod Ready
 pub mod OneByOne
+pub mod Counted
 pub mod Taken
 pub mod Stuck
 pub mod Depends
