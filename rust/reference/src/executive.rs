@@ -195,7 +195,7 @@ impl State {
         let row = table.agents[a].rows[position];
         let (x, y) = (usize::from(row.x), usize::from(row.y));
         let other = position + 1 + usize::from(row.n);
-        let message = Self::best(&self.visible(table, row));
+        let message = if row.op == RECV { Self::best(&self.visible(table, row)) } else { None };
         let AgentState { position: at, registers: r } = &mut self.agents[a];
         *at = position + 1;
         match row.op {
@@ -258,7 +258,7 @@ pub fn run(table: &[u32], state: &mut [u32], choices: &[u32]) -> (u32, u32) {
     if table.len() < TABLE_WORDS || state.len() < STATE_WORDS {
         return (BUFFER_TOO_SHORT, 0);
     }
-    if choices.len() % 2 != 0 {
+    if !choices.len().is_multiple_of(2) {
         return (ODD_CHOICES, 0);
     }
     let Some(table) = Table::from_words(table) else {

@@ -12,7 +12,7 @@ pub fn bytes_of_digits(digits: &[u8]) -> Option<Vec<u8>> {
         b'A'..=b'F' => Some(digit - b'A' + 10),
         _ => None,
     };
-    if digits.len() % 2 != 0 {
+    if !digits.len().is_multiple_of(2) {
         return None;
     }
     digits.chunks(2).map(|pair| Some(16 * value(pair[0])? + value(pair[1])?)).collect()
@@ -60,6 +60,9 @@ fn frame(line: &[u8]) -> Option<Frame> {
     }
 }
 
+/// A reply and the line that it is told with.
+pub type Refusal = (u32, u32);
+
 /// What the lines gave, with the line of each row.
 #[derive(Default)]
 struct Lines {
@@ -67,8 +70,8 @@ struct Lines {
     row_lines: Vec<Vec<u32>>,
 }
 
-/// Reads all lines for 2 and 3. A refusal is a reply and its line.
-fn lines(text: &[u8]) -> Result<Lines, (u32, u32)> {
+/// Reads all lines for 2 and 3.
+fn lines(text: &[u8]) -> Result<Lines, Refusal> {
     let mut read = Lines::default();
     let mut left = text;
     let mut line = 1;
@@ -110,8 +113,8 @@ fn lines(text: &[u8]) -> Result<Lines, (u32, u32)> {
     }
 }
 
-/// The table of a text, or the reply and line of its refusal.
-pub fn table_of_text(text: &[u8]) -> Result<Table, (u32, u32)> {
+/// The table of a text.
+pub fn table_of_text(text: &[u8]) -> Result<Table, Refusal> {
     let Lines { table, row_lines } = lines(text)?;
     for (agent, its_lines) in table.agents.iter().zip(&row_lines) {
         for (i, line) in its_lines.iter().enumerate() {

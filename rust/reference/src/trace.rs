@@ -1,7 +1,7 @@
 //! The trace program's work, from input bytes to output bytes.
 
 use crate::executive::State;
-use crate::reader::{bytes_of_digits, number, split_line, table_of_text};
+use crate::reader::{bytes_of_digits, number, split_line, table_of_text, Refusal};
 use crate::reply::*;
 use crate::table::Table;
 
@@ -21,14 +21,17 @@ fn split_table(input: &[u8]) -> (&[u8], &[u8]) {
     (input, &[])
 }
 
-/// The agent and time of one choice line without its newline; none where it is malformed.
-fn choice(line: &[u8]) -> Option<(u32, u32)> {
+/// An agent and a time.
+type Choice = (u32, u32);
+
+/// The choice of one line without its newline; none where it is malformed.
+fn choice(line: &[u8]) -> Option<Choice> {
     let bytes = bytes_of_digits(line)?;
     (bytes.len() == 6 && bytes[0] == 0x02).then(|| (bytes[1].into(), number(&bytes[2..])))
 }
 
 /// The choices, or the number of the first malformed line.
-fn choices(text: &[u8], first_line: u32) -> Result<Vec<(u32, u32)>, u32> {
+fn choices(text: &[u8], first_line: u32) -> Result<Vec<Choice>, u32> {
     let mut found = Vec::new();
     let mut left = text;
     let mut line = first_line;
@@ -41,8 +44,8 @@ fn choices(text: &[u8], first_line: u32) -> Result<Vec<(u32, u32)>, u32> {
     Ok(found)
 }
 
-/// The table and choices of an input, or the reply and line of its refusal.
-fn read_input(input: &[u8]) -> Result<(Table, Vec<(u32, u32)>), (u32, u32)> {
+/// The table and choices of an input.
+fn read_input(input: &[u8]) -> Result<(Table, Vec<Choice>), Refusal> {
     if input.len() > INPUT_BYTES {
         return Err((INPUT_TOO_LONG, 0));
     }
