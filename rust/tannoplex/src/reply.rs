@@ -105,9 +105,7 @@ impl fmt::Display for Reply {
             Reply::BufferTooShort => "table or state buffer too short",
             Reply::MalformedLine => "a line is malformed",
             Reply::LineOutOfPlace => "a line out of its place, or too many agents or rows",
-            Reply::BadField => {
-                "unknown op, register above 3, n above 31, or an unused field not 0"
-            }
+            Reply::BadField => "unknown op, register above 3, n above 31, or an unused field not 0",
             Reply::BadTarget => "a target above the row count",
             Reply::BadWindow => "early not below late, or late above 1,000,000",
             Reply::WindowGoesBack => "early or late below that of the row before",
