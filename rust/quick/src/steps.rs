@@ -71,22 +71,23 @@ impl<'a> State<'a> {
         true
     }
 
-    /// The value of the best message visible to this row.
+    /// The value of the best message visible to this row. That lates do not fall along the rows is
+    /// not made use of: change request T-03 gives it up.
     fn best(&self, table: &Table, [_, k, early, _]: Row) -> Option<u32> {
         let mut best = None;
         let mut best_late = 0;
         for a in 0..table.agents {
-            let rows = table.places(a);
             let passed = (self.positions[a] as usize).min(ROWS);
-            // Lates do not fall along the rows, so an agent's last visible message is its best.
+            let rows = table.places(a);
+            let marks = &self.marks[a];
+            // Downwards, so that of an agent's messages of one late the higher row comes first.
             for i in (0..passed).rev() {
-                let [_, sent_k, _, late] = rows[i];
-                if (self.marks[a][i] != 0) & (sent_k == k) & (late < early) {
-                    if late > best_late {
+                if marks[i] != 0 {
+                    let [_, sent_k, _, late] = rows[i];
+                    if sent_k == k && late < early && late > best_late {
                         best_late = late;
                         best = Some(self.values[a][i]);
                     }
-                    break;
                 }
             }
         }
