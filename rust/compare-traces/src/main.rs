@@ -28,9 +28,7 @@ fn main() -> ExitCode {
         (Ok(a), Ok(b)) => match states::first_difference(&a, &b) {
             None => {
                 let (agents, states) = states::compared(&a, &b);
-                println!(
-                    "agents that both ran: {agents}; their states after a step agree: {states}"
-                );
+                println!("{agents} agents agree in all {states} states that both show");
                 ExitCode::SUCCESS
             }
             Some(what) => {

@@ -190,7 +190,7 @@ impl State {
     }
 
     /// The effect of the current row of agent a, chosen for this time.
-    fn take(&mut self, table: &Table, a: usize, time: u32) {
+    pub fn take(&mut self, table: &Table, a: usize, time: u32) {
         let position = self.agents[a].position;
         let row = table.agents[a].rows[position];
         let (x, y) = (usize::from(row.x), usize::from(row.y));
