@@ -1,0 +1,160 @@
+/*
+ * Tannoplex: a proved executive for instruction time windows.
+ *
+ * A table gives each of 1 to 16 agents its starting registers and 1 to 32 rows, each row with a
+ * window from early to late. A state says how far each agent is, what is in its registers and what
+ * was sent. A choice is an agent and a time. Whether a choice is accepted, and what it does, is
+ * decided by the table and the state; in whatever order the choices come, each agent passes through
+ * the same states.
+ *
+ * Link with libboard.a (`rt staticlib board` writes it to target/staticlib), for x86-64.
+ *
+ * Buffers
+ *   The caller lends every buffer for the time of the call, with its length: in bytes for text, in
+ *   words of 32 bits for the others. Nothing is allocated and nothing is kept between calls: a call
+ *   goes by what it is lent, so calls on different buffers may be made at the same time.
+ *   A table needs TANNOPLEX_TABLE_WORDS and a state TANNOPLEX_STATE_WORDS; a longer buffer may be
+ *   lent, and words past these lengths are never read or written. Words are in the machine's order
+ *   of bytes and aligned as uint32_t is.
+ *   A buffer that a call writes must not overlap any other buffer of the same call.
+ *   NULL with length 0 is allowed and is an empty buffer: as table or state it is too short
+ *   (TANNOPLEX_BUFFER_TOO_SHORT), as text it is the empty text, as choices the empty list. NULL with
+ *   any other length is not allowed.
+ *   Any bytes and any words may be lent; nothing need be checked beforehand.
+ *
+ * Refusals
+ *   A call answers TANNOPLEX_ACCEPTED or the number of the first refusal that holds, in the order
+ *   that is given with the call. A refusal leaves every lent buffer as it was, with one exception:
+ *   tannoplex_run that is refused at a choice leaves the state after the steps accepted before.
+ *
+ * Words of a table
+ *   0              number of agents
+ *   1 to 16        row count of each agent
+ *   17 to 80       starting registers, four for each agent
+ *   81 to 2128     rows of four words, row i of agent a at 81 + 4*(32*a + i):
+ *                  op, x, y, n (a byte each, op highest), then k, early, late
+ *   Unused words are 0.
+ *
+ * Words of a state
+ *   0              clock
+ *   1 to 16        position of each agent; equal to its row count once it has ended
+ *   17 to 80       registers, four for each agent
+ *   81 to 592      sent marks, 0 or 1, row i of agent a at 81 + 32*a + i
+ *   593 to 1104    sent values, at 593 + 32*a + i
+ *   Unused words are 0, and so is a value whose mark is 0.
+ *
+ * Rows (op in hexadecimal; p is the row's own position; other fields are 0)
+ *   00 SET x, k      x becomes k
+ *   01 ADD x, y      x becomes x+y modulo 2^32
+ *   02 SUB x, y      x becomes x-y modulo 2^32
+ *   03 ONES x, y     x becomes the number of one bits in y
+ *   04 LOW x, y      x becomes the number of zero bits below the lowest one bit of y; 32 if y is 0
+ *   10 SKIP x, n     where x is 0 go on at p+1+n, else at p+1
+ *   11 JUMP n        go on at p+1+n
+ *   20 SEND x, k     the value of x is sent under message number k
+ *   30 RECV x, k, n  message found: x becomes its value, on at p+1; none: on at p+1+n
+ *   A RECV finds the messages of its number whose row's late is below its own early; of several
+ *   the one of the greatest late, then of the lower agent, then of the higher row.
+ */
+#ifndef TANNOPLEX_H
+#define TANNOPLEX_H
+
+#include <stddef.h>
+#include <stdint.h>
+
+#ifdef __cplusplus
+extern "C" {
+#endif
+
+/* Sizes. */
+#define TANNOPLEX_TABLE_WORDS 2129
+#define TANNOPLEX_STATE_WORDS 1105
+#define TANNOPLEX_AGENTS 16
+#define TANNOPLEX_ROWS 32
+#define TANNOPLEX_REGISTERS 4
+#define TANNOPLEX_LAST_TIME 1000000
+
+/* Where the parts of a table and of a state begin. */
+#define TANNOPLEX_TABLE_ROW_COUNTS 1
+#define TANNOPLEX_TABLE_REGISTERS 17
+#define TANNOPLEX_TABLE_ROWS 81
+#define TANNOPLEX_STATE_CLOCK 0
+#define TANNOPLEX_STATE_POSITIONS 1
+#define TANNOPLEX_STATE_REGISTERS 17
+#define TANNOPLEX_STATE_MARKS 81
+#define TANNOPLEX_STATE_VALUES 593
+
+/* Replies. */
+#define TANNOPLEX_ACCEPTED 0          /* accepted */
+#define TANNOPLEX_BUFFER_TOO_SHORT 1  /* table or state buffer too short */
+#define TANNOPLEX_MALFORMED_LINE 2    /* a line is malformed */
+#define TANNOPLEX_LINE_OUT_OF_PLACE 3 /* a line out of its place, or too many agents or rows */
+#define TANNOPLEX_BAD_FIELD 4         /* unknown op, register above 3, n above 31, or an unused
+                                         field not 0 */
+#define TANNOPLEX_BAD_TARGET 5        /* a target above the row count */
+#define TANNOPLEX_BAD_WINDOW 6        /* early not below late, or late above 1,000,000 */
+#define TANNOPLEX_WINDOW_GOES_BACK 7  /* early or late below that of the row before */
+#define TANNOPLEX_BAD_TABLE 8         /* the table words break a rule */
+#define TANNOPLEX_BAD_STATE 9         /* the state words do not fit the table */
+#define TANNOPLEX_NO_SUCH_AGENT 10    /* no such agent */
+#define TANNOPLEX_AGENT_ENDED 11      /* the agent has ended */
+#define TANNOPLEX_TIME_BELOW_CLOCK 12 /* time below the clock */
+#define TANNOPLEX_TIME_BELOW_EARLY 13 /* time below the row's early */
+#define TANNOPLEX_STUCK 14            /* no agent and time at all would be accepted, though some
+                                         agent is unfinished; cannot be met */
+#define TANNOPLEX_TIME_ABOVE_LATE 15  /* time above some unfinished agent's late */
+#define TANNOPLEX_ODD_CHOICES 16      /* the list of choices has an odd number of words */
+#define TANNOPLEX_INPUT_TOO_LONG 17   /* the trace program's input is above 65,536 bytes; no call
+                                         here gives it */
+
+/* What tannoplex_read answers: a reply, and the line it is about, counted from 1; 0 with
+   TANNOPLEX_ACCEPTED and TANNOPLEX_BUFFER_TOO_SHORT. */
+typedef struct { uint32_t reply, line; } tannoplex_told;
+
+/* What tannoplex_run answers: a reply, and how many steps were accepted before it. */
+typedef struct { uint32_t reply, count; } tannoplex_ran;
+
+/*
+ * Reads the text of a table. Text is lines of upper-case hexadecimal, numbers high byte first, each
+ * line ended by one newline byte:
+ *   00, agent, four registers of 4 bytes                    opens an agent; 0, 1, 2 and so on
+ *   01, agent, op, x, y, n, k (4), early (4), late (4)      next row of the open agent
+ *   FF                                                      the end, and the last line
+ * Replies: 1; then 2 or 3 for the earliest line, 2 before 3; then 4, 5, 6 or 7 for the first row in
+ * order. Where it is accepted all words of the table are written.
+ */
+tannoplex_told tannoplex_read(const uint8_t *text, size_t text_len, uint32_t *table,
+                              size_t table_len);
+
+/* Checks the words of a table. Replies: 1, 8. What tannoplex_read accepts, this accepts. */
+uint32_t tannoplex_check(const uint32_t *table, size_t table_len);
+
+/*
+ * Makes the start state of a table: clock 1, positions 0, the table's registers, no marks.
+ * Replies: 1, 8.
+ */
+uint32_t tannoplex_start(const uint32_t *table, size_t table_len, uint32_t *state,
+                         size_t state_len);
+
+/*
+ * One step. The choice is accepted exactly when the agent exists and has not ended, the time is not
+ * below the clock, not below the early of the agent's row, and not above the late of the row of any
+ * agent that has not ended. Then the row takes effect and the clock becomes the time.
+ * Replies: 1, 8, 9, then 10 to 15 in that order.
+ */
+uint32_t tannoplex_step(const uint32_t *table, size_t table_len, uint32_t *state,
+                        size_t state_len, uint32_t agent, uint32_t time);
+
+/*
+ * A run from the start state: what the state buffer holds beforehand is of no account. A choice is
+ * two words, agent and then time. The run stops at the first refusal.
+ * Replies: 1, 16, 8, with count 0; then each step's 10 to 15. An empty list leaves the start state.
+ */
+tannoplex_ran tannoplex_run(const uint32_t *table, size_t table_len, uint32_t *state,
+                            size_t state_len, const uint32_t *choices, size_t choices_len);
+
+#ifdef __cplusplus
+}
+#endif
+
+#endif

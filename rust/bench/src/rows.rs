@@ -1,0 +1,190 @@
+//! The rows of the table: a call, its inputs, and who does it.
+
+use std::hint::black_box;
+
+use reference::{Table, AGENTS, ROWS, STATE_WORDS, TABLE_WORDS};
+
+use crate::inputs;
+use crate::measure::Work;
+
+/// One row: the same calls on the same inputs by the proved library, by `quick`, and a plain sum over
+/// the same words.
+pub struct Row {
+    pub name: &'static str,
+    pub what: String,
+    pub between: &'static str,
+    pub calls: usize,
+    pub proved: Box<dyn Work>,
+    pub quick: Box<dyn Work>,
+    pub sum: Box<dyn Work>,
+}
+
+fn sum(words: &[u32]) -> u32 {
+    words.iter().fold(0, |sum, word| sum.wrapping_add(*word))
+}
+
+fn sum_of_bytes(bytes: &[u8]) -> u32 {
+    bytes.iter().fold(0, |sum, byte| sum.wrapping_add(u32::from(*byte)))
+}
+
+/// Calls in one timed turn, where the buffers need nothing in between.
+const CALLS: usize = 50;
+
+/// Work that makes the same call again and again.
+fn again(mut call: impl FnMut() + 'static) -> Box<dyn Work> {
+    Box::new(move || {
+        for _ in 0..CALLS {
+            call();
+        }
+    })
+}
+
+fn full_table() -> Table {
+    inputs::table(AGENTS, ROWS, inputs::MANY_RECVS)
+}
+
+fn check() -> Row {
+    let words = full_table().to_words();
+    let proved = words.clone();
+    let quick = words.clone();
+    Row {
+        name: "check",
+        what: "16 agents of 32 rows, accepted".to_string(),
+        between: "nothing; no buffer is written",
+        calls: CALLS,
+        proved: again(move || assert!(tannoplex::check(black_box(&proved)).is_accepted())),
+        quick: again(move || assert_eq!(quick::check(black_box(&quick)), 0)),
+        sum: again(move || {
+            black_box(sum(black_box(&words)));
+        }),
+    }
+}
+
+fn read() -> Row {
+    let text = cases::texts::text(&full_table());
+    let (proved, quick) = (text.clone(), text.clone());
+    let mut proved_table = vec![0; TABLE_WORDS];
+    let mut quick_table = vec![0; TABLE_WORDS];
+    Row {
+        name: "read",
+        what: format!("the same table, {} bytes of text", text.len()),
+        between: "nothing; each call writes the same table over the last",
+        calls: CALLS,
+        proved: again(move || {
+            assert!(tannoplex::read(black_box(&proved), &mut proved_table).reply.is_accepted());
+        }),
+        quick: again(move || {
+            assert_eq!(quick::read(black_box(&quick), &mut quick_table), (0, 0));
+        }),
+        sum: again(move || {
+            black_box(sum_of_bytes(black_box(&text)));
+        }),
+    }
+}
+
+/// One step from each state of a whole schedule. The states are put back before each turn.
+struct Steps<F> {
+    table: Vec<u32>,
+    fresh: Vec<Vec<u32>>,
+    states: Vec<Vec<u32>>,
+    choices: Vec<[u32; 2]>,
+    step: F,
+}
+
+impl<F: FnMut(&[u32], &mut [u32], u32, u32)> Work for Steps<F> {
+    fn prepare(&mut self) {
+        for (state, fresh) in self.states.iter_mut().zip(&self.fresh) {
+            state.copy_from_slice(fresh);
+        }
+    }
+
+    fn work(&mut self) {
+        for (state, &[agent, time]) in self.states.iter_mut().zip(&self.choices) {
+            (self.step)(black_box(&self.table), black_box(state), agent, time);
+        }
+    }
+}
+
+fn steps<F>(step: F) -> Box<dyn Work>
+where
+    F: FnMut(&[u32], &mut [u32], u32, u32) + 'static,
+{
+    let table = full_table();
+    let choices = inputs::choices(&table);
+    let words = table.to_words();
+    // Every 17th step of the schedule: few enough states to stay in the cache, of every agent.
+    let chosen: Vec<usize> = (0..choices.len()).step_by(17).collect();
+    let fresh: Vec<Vec<u32>> = chosen
+        .iter()
+        .map(|&at| {
+            let mut state = vec![0; STATE_WORDS];
+            assert_eq!(reference::run(&words, &mut state, choices[..at].as_flattened()).0, 0);
+            state
+        })
+        .collect();
+    let choices = chosen.iter().map(|&at| choices[at]).collect();
+    Box::new(Steps { table: words, states: fresh.clone(), fresh, choices, step })
+}
+
+fn step() -> Row {
+    Row {
+        name: "step",
+        what: "the same table, 31 states along a run, half of the rows RECV".to_string(),
+        between: "the states are put back before each turn, outside the time",
+        calls: 31,
+        proved: steps(|table, state, agent, time| {
+            assert!(tannoplex::step(table, state, agent, time).is_accepted());
+        }),
+        quick: steps(|table, state, agent, time| {
+            assert_eq!(quick::step(table, state, agent, time), 0);
+        }),
+        sum: steps(|table, state, _, _| {
+            black_box(sum(table).wrapping_add(sum(state)));
+        }),
+    }
+}
+
+/// A row for whole runs of this table.
+pub fn run(name: &'static str, what: &str, table: &Table) -> Row {
+    let words = table.to_words();
+    let choices = inputs::choices(table);
+    let count = choices.len() as u32;
+    let choices = choices.as_flattened().to_vec();
+    let (proved, quick) = ((words.clone(), choices.clone()), (words.clone(), choices.clone()));
+    let mut proved_state = vec![0; STATE_WORDS];
+    let mut quick_state = vec![0; STATE_WORDS];
+    let sum_state = vec![0; STATE_WORDS];
+    Row {
+        name,
+        what: format!("{what}, {count} accepted steps"),
+        between: "nothing; each run begins at the start state and writes every word",
+        calls: CALLS,
+        proved: again(move || {
+            let ran = tannoplex::run(black_box(&proved.0), &mut proved_state, black_box(&proved.1));
+            assert_eq!(ran.count, count);
+        }),
+        quick: again(move || {
+            let ran = quick::run(black_box(&quick.0), &mut quick_state, black_box(&quick.1));
+            assert_eq!(ran, (0, count));
+        }),
+        sum: again(move || {
+            black_box(sum(black_box(&words)));
+            black_box(sum(black_box(&choices)));
+            black_box(sum(black_box(&sum_state)));
+        }),
+    }
+}
+
+/// All rows of the table.
+pub fn all() -> Vec<Row> {
+    let few = inputs::table(3, ROWS, inputs::MANY_RECVS);
+    let none = inputs::table(AGENTS, ROWS, inputs::NO_RECVS);
+    vec![
+        check(),
+        read(),
+        step(),
+        run("run, many RECVs", "16 agents of 32 rows, every second a RECV", &full_table()),
+        run("run, no RECVs", "16 agents of 32 rows, no RECV", &none),
+        run("run, 3 agents", "3 agents of 32 rows, every second a RECV", &few),
+    ]
+}

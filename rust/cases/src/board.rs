@@ -1,0 +1,17 @@
+//! What is compared with the reference.
+
+/// An implementation of document 01's calls and of its trace program.
+pub trait Board {
+    /// Reads a text: reply and line.
+    fn read(&self, text: &[u8], table: &mut [u32]) -> (u32, u32);
+    /// Checks a table.
+    fn check(&self, table: &[u32]) -> u32;
+    /// Makes the start state.
+    fn start(&self, table: &[u32], state: &mut [u32]) -> u32;
+    /// One step.
+    fn step(&self, table: &[u32], state: &mut [u32], agent: u32, time: u32) -> u32;
+    /// A run from the start state: reply and count.
+    fn run(&self, table: &[u32], state: &mut [u32], choices: &[u32]) -> (u32, u32);
+    /// The output of the trace program.
+    fn trace(&self, input: &[u8]) -> Vec<u8>;
+}

@@ -1,0 +1,17 @@
+//! Seeded random cases, valid and damaged, on which an implementation of document 01 (a [`Board`])
+//! is compared with the reference: replies, lines, counts and every word of the lent buffers, and
+//! the words around them.
+
+pub mod board;
+pub mod choices;
+pub mod counts;
+pub mod damage;
+pub mod lent;
+pub mod rng;
+pub mod suite;
+pub mod tables;
+pub mod texts;
+
+pub use board::Board;
+pub use counts::Counts;
+pub use suite::{compare, Failure, Plan};

@@ -1,0 +1,180 @@
+//! The text of tables and of choices, good and damaged.
+
+use reference::{Row, Table};
+
+use crate::choices::Choice;
+use crate::damage::damage_row;
+use crate::rng::Rng;
+
+/// One line of a text.
+#[derive(Clone)]
+enum Line {
+    Opens(u8, [u32; 4]),
+    Row(u8, Row),
+    End,
+}
+
+impl Line {
+    fn write(&self, text: &mut Vec<u8>) {
+        let line = match self {
+            Line::Opens(agent, [r0, r1, r2, r3]) => {
+                format!("00{agent:02X}{r0:08X}{r1:08X}{r2:08X}{r3:08X}\n")
+            }
+            Line::Row(agent, Row { op, x, y, n, k, early, late }) => {
+                let code = format!("{op:02X}{x:02X}{y:02X}{n:02X}");
+                format!("01{agent:02X}{code}{k:08X}{early:08X}{late:08X}\n")
+            }
+            Line::End => "FF\n".to_string(),
+        };
+        text.extend(line.as_bytes());
+    }
+}
+
+fn lines(table: &Table) -> Vec<Line> {
+    let mut lines = Vec::new();
+    for (a, agent) in table.agents.iter().enumerate() {
+        lines.push(Line::Opens(a as u8, agent.registers));
+        lines.extend(agent.rows.iter().map(|row| Line::Row(a as u8, *row)));
+    }
+    lines.push(Line::End);
+    lines
+}
+
+fn written(lines: &[Line]) -> Vec<u8> {
+    let mut text = Vec::new();
+    lines.iter().for_each(|line| line.write(&mut text));
+    text
+}
+
+/// The text of a table.
+pub fn text(table: &Table) -> Vec<u8> {
+    written(&lines(table))
+}
+
+/// The lines `02` of choices. Agents above 255 have no such line; their low byte is taken.
+pub fn choice_lines(choices: &[Choice]) -> Vec<u8> {
+    choices
+        .iter()
+        .flat_map(|&(agent, time)| format!("02{:02X}{time:08X}\n", agent as u8).into_bytes())
+        .collect()
+}
+
+/// The text of a table with one to three damages.
+pub fn damaged(rng: &mut Rng, table: &Table) -> Vec<u8> {
+    let mut lines = lines(table);
+    let mut text = None;
+    for _ in 0..rng.pick(&[1, 1, 1, 2, 3]) {
+        match rng.below(9) {
+            0..=3 => damage_one_row(rng, &mut lines),
+            4..=6 => damage_order(rng, &mut lines),
+            _ => {
+                let mut bytes = text.take().unwrap_or_else(|| written(&lines));
+                damage_bytes(rng, &mut bytes);
+                text = Some(bytes);
+            }
+        }
+    }
+    text.unwrap_or_else(|| written(&lines))
+}
+
+/// A field of one row becomes wrong, or only different: 4 to 7.
+fn damage_one_row(rng: &mut Rng, lines: &mut [Line]) {
+    let rows: Vec<usize> =
+        (0..lines.len()).filter(|&i| matches!(lines[i], Line::Row(..))).collect();
+    if rows.is_empty() {
+        return;
+    }
+    let at = rng.pick(&rows);
+    let before = match at.checked_sub(1).map(|i| &lines[i]) {
+        Some(Line::Row(_, row)) => *row,
+        _ => Row::default(),
+    };
+    if let Line::Row(_, row) = &mut lines[at] {
+        damage_row(rng, row, before);
+    }
+}
+
+/// Lines change their number, their place or their agent: 3.
+fn damage_order(rng: &mut Rng, lines: &mut Vec<Line>) {
+    if lines.is_empty() {
+        return;
+    }
+    let at = rng.below(lines.len());
+    let other = rng.below(lines.len());
+    match rng.below(11) {
+        0 => drop(lines.remove(at)),
+        1 => lines.insert(at, lines[at].clone()),
+        2 => lines.swap(at, other),
+        3 => lines.insert(at, Line::End),
+        4 => drop(lines.pop()),
+        5 => lines.truncate(at),
+        6 => lines.push(lines[at].clone()),
+        7 => lines.retain(|line| !matches!(line, Line::Opens(0, _))),
+        8 => {
+            // An agent is left without rows.
+            let agent = rng.below(16) as u8;
+            lines.retain(|line| !matches!(line, Line::Row(a, _) if *a == agent));
+        }
+        9 => too_many(rng, lines),
+        _ => match &mut lines[at] {
+            Line::Opens(agent, _) | Line::Row(agent, _) => {
+                *agent = rng.pick(&[agent.wrapping_add(1), agent.wrapping_sub(1), 16, 255]);
+            }
+            Line::End => {}
+        },
+    }
+}
+
+/// Up to a 33rd row of some agent, or up to a 17th agent, or one short of it.
+fn too_many(rng: &mut Rng, lines: &mut Vec<Line>) {
+    let Some(at) = lines.iter().rposition(|line| matches!(line, Line::Row(..))) else {
+        return;
+    };
+    let Line::Row(agent, row) = lines[at] else { return };
+    if rng.percent(50) {
+        let rows =
+            lines.iter().filter(|line| matches!(line, Line::Row(a, _) if *a == agent)).count();
+        let wanted = rng.pick(&[32, 33]);
+        for _ in rows..wanted {
+            lines.insert(at + 1, Line::Row(agent, Row { op: 0x11, x: 0, y: 0, n: 0, k: 0, ..row }));
+        }
+    } else {
+        let wanted = rng.pick(&[16, 17]);
+        let mut at = at + 1;
+        for next in agent.saturating_add(1)..wanted {
+            lines.insert(at, Line::Opens(next, [0; 4]));
+            lines.insert(at + 1, Line::Row(next, row));
+            at += 2;
+        }
+    }
+}
+
+/// Bytes change: mostly 2.
+pub fn damage_bytes(rng: &mut Rng, text: &mut Vec<u8>) {
+    if text.is_empty() {
+        return text.push(rng.pick(b"\nF0 "));
+    }
+    let at = rng.below(text.len());
+    let line_end = at + text[at..].iter().position(|&byte| byte == b'\n').unwrap_or(0);
+    match rng.below(16) {
+        0 => text[at] = rng.draw() as u8,
+        1 => text[at] = rng.pick(b"/:@GagZ\n\r \0\x80\xFF"),
+        2 => text[at] = rng.pick(b"0123456789ABCDEF"),
+        3 => text.insert(at, rng.pick(b"0FG\n")),
+        4 => drop(text.remove(at)),
+        5 => text.truncate(at),
+        6 => drop(text.pop()),
+        7 => text.insert(line_end, b'\r'),
+        8 => text.insert(line_end, b'\n'),
+        9 => drop(text.splice(line_end..line_end, *b"00")),
+        10 => drop(text.splice(at..(at + 2).min(text.len()), [])),
+        11 => text.extend(rng.pick(&[&b"\n"[..], b"F", b"x", b"FF\n", b"020000000001\n"])),
+        12 => text.push(rng.draw() as u8),
+        13 => text.insert(0, rng.pick(b"\n0F")),
+        14 => text[at] = text[at].to_ascii_lowercase(),
+        _ => {
+            let begin = text[..at].iter().rposition(|&byte| byte == b'\n').map_or(0, |i| i + 1);
+            text[begin] = rng.pick(b"0123456789ABCDEF");
+        }
+    }
+}

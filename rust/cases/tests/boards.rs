@@ -1,0 +1,188 @@
+//! The comparison, tried on boards that need no archive: the optimised implementation must pass,
+//! and boards with a fault each must not.
+
+use cases::suite::Kind;
+use cases::{compare, Board, Plan};
+
+struct Quick;
+
+impl Board for Quick {
+    fn read(&self, text: &[u8], table: &mut [u32]) -> (u32, u32) {
+        quick::read(text, table)
+    }
+    fn check(&self, table: &[u32]) -> u32 {
+        quick::check(table)
+    }
+    fn start(&self, table: &[u32], state: &mut [u32]) -> u32 {
+        quick::start(table, state)
+    }
+    fn step(&self, table: &[u32], state: &mut [u32], agent: u32, time: u32) -> u32 {
+        quick::step(table, state, agent, time)
+    }
+    fn run(&self, table: &[u32], state: &mut [u32], choices: &[u32]) -> (u32, u32) {
+        quick::run(table, state, choices)
+    }
+    fn trace(&self, input: &[u8]) -> Vec<u8> {
+        let mut output = [0; quick::OUTPUT_BYTES];
+        let length = quick::trace(input, &mut output);
+        output[..length].to_vec()
+    }
+}
+
+#[test]
+fn the_optimised_implementation_passes_and_the_floors_are_met() {
+    let counts = compare(&Quick, &Plan::default(), 1).unwrap_or_else(|f| panic!("{f}"));
+    println!("{counts}");
+    assert_eq!(counts.below_floors(), Vec::<String>::new());
+}
+
+#[test]
+fn a_comparison_of_nothing_is_below_every_floor() {
+    let counts = compare(&Quick, &Plan(vec![]), 1).unwrap();
+    assert!(counts.below_floors().len() > 20);
+}
+
+/// A reply with a line or a count.
+type Told = (u32, u32);
+
+/// A board with one fault, laid over the good one.
+struct Faulty {
+    read: fn(&[u8], &mut [u32]) -> Told,
+    check: fn(&[u32]) -> u32,
+    step: fn(&[u32], &mut [u32], u32, u32) -> u32,
+    run: fn(&[u32], &mut [u32], &[u32]) -> Told,
+    trace: fn(&[u8]) -> Vec<u8>,
+}
+
+const GOOD: Faulty = Faulty {
+    read: quick::read,
+    check: quick::check,
+    step: quick::step,
+    run: quick::run,
+    trace: |input| Quick.trace(input),
+};
+
+impl Board for Faulty {
+    fn read(&self, text: &[u8], table: &mut [u32]) -> (u32, u32) {
+        (self.read)(text, table)
+    }
+    fn check(&self, table: &[u32]) -> u32 {
+        (self.check)(table)
+    }
+    fn start(&self, table: &[u32], state: &mut [u32]) -> u32 {
+        quick::start(table, state)
+    }
+    fn step(&self, table: &[u32], state: &mut [u32], agent: u32, time: u32) -> u32 {
+        (self.step)(table, state, agent, time)
+    }
+    fn run(&self, table: &[u32], state: &mut [u32], choices: &[u32]) -> (u32, u32) {
+        (self.run)(table, state, choices)
+    }
+    fn trace(&self, input: &[u8]) -> Vec<u8> {
+        (self.trace)(input)
+    }
+}
+
+fn is_found(fault: &str, board: &Faulty, kind: Kind) {
+    let plan = Plan(vec![(kind, 12_000)]);
+    assert!(compare(board, &plan, 1).is_err(), "not found: {fault}");
+}
+
+#[test]
+fn faults_of_the_reader_are_found() {
+    let past = |text: &[u8], table: &mut [u32]| {
+        let told = quick::read(text, table);
+        if let (0, Some(word)) = (told.0, table.get_mut(2129)) {
+            *word = word.wrapping_add(1);
+        }
+        told
+    };
+    is_found("writes past 2,129", &Faulty { read: past, ..GOOD }, Kind::Read);
+    let before = |text: &[u8], table: &mut [u32]| {
+        let told = quick::read(text, table);
+        if told.0 == 7 {
+            table[0] ^= 1;
+        }
+        told
+    };
+    is_found("writes before the last row is checked", &Faulty { read: before, ..GOOD }, Kind::Read);
+    let line = |text: &[u8], table: &mut [u32]| match quick::read(text, table) {
+        (5, line) => (5, line + 1),
+        told => told,
+    };
+    is_found("tells the wrong line", &Faulty { read: line, ..GOOD }, Kind::Read);
+    let lower = |text: &[u8], table: &mut [u32]| quick::read(&text.to_ascii_uppercase(), table);
+    is_found("accepts lower case", &Faulty { read: lower, ..GOOD }, Kind::Read);
+}
+
+#[test]
+fn faults_of_the_check_are_found() {
+    let unused = |table: &[u32]| {
+        let mut table = table.to_vec();
+        if let Some(last) = table.get_mut(2128) {
+            *last = if *last == 1 { 0 } else { *last };
+        }
+        quick::check(&table)
+    };
+    is_found("leaves an unused word", &Faulty { check: unused, ..GOOD }, Kind::Check);
+    let million = |table: &[u32]| {
+        let mut table = table.to_vec();
+        for late in table.iter_mut().skip(84).step_by(4).filter(|late| **late == 1_000_001) {
+            *late = 1_000_000;
+        }
+        quick::check(&table)
+    };
+    is_found("takes late 1,000,001", &Faulty { check: million, ..GOOD }, Kind::Check);
+}
+
+#[test]
+fn faults_of_the_step_are_found() {
+    let all = |_: &[u32], _: &mut [u32], _: u32, _: u32| 15;
+    is_found("refuses everything", &Faulty { step: all, ..GOOD }, Kind::Step);
+    let early = |table: &[u32], state: &mut [u32], agent, time: u32| match quick::step(
+        table, state, agent, time,
+    ) {
+        12 => quick::step(table, state, agent, time + 1),
+        reply => reply,
+    };
+    is_found("takes the time before the clock", &Faulty { step: early, ..GOOD }, Kind::Step);
+}
+
+#[test]
+fn faults_of_the_run_are_found() {
+    let echo = |table: &[u32], state: &mut [u32], choices: &[u32]| {
+        let first = choices.len().min(2);
+        let (reply, count) = quick::run(table, state, &choices[..first]);
+        (reply, if reply == 0 { choices.len() as u32 / 2 } else { count })
+    };
+    is_found("does the first step and echoes", &Faulty { run: echo, ..GOOD }, Kind::Run);
+    let keep = |table: &[u32], state: &mut [u32], choices: &[u32]| {
+        let before = state.to_vec();
+        let (reply, count) = quick::run(table, state, choices);
+        if reply == 15 {
+            state.copy_from_slice(&before);
+        }
+        (reply, count)
+    };
+    is_found("leaves the state untouched at 15", &Faulty { run: keep, ..GOOD }, Kind::Run);
+    // The value of the message found depends on the order of the choices.
+    let order = |table: &[u32], state: &mut [u32], choices: &[u32]| {
+        let ran = quick::run(table, state, choices);
+        if ran.1 >= 20 && choices[..2] > choices[2..4] {
+            state[17] ^= 1;
+        }
+        ran
+    };
+    is_found("depends on the order", &Faulty { run: order, ..GOOD }, Kind::Pair);
+}
+
+#[test]
+fn faults_of_the_trace_are_found() {
+    let limit = |input: &[u8]| Quick.trace(&input[..input.len().min(65_536)]);
+    is_found("takes more than 65,536 bytes", &Faulty { trace: limit, ..GOOD }, Kind::Trace);
+    let shorter = |input: &[u8]| match input.len() {
+        65_536 => b"FE110000\n".to_vec(),
+        _ => Quick.trace(input),
+    };
+    is_found("17 at 65,536", &Faulty { trace: shorter, ..GOOD }, Kind::Trace);
+}

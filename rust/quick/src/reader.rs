@@ -1,0 +1,120 @@
+//! Frames: a table from text.
+
+use crate::reply::*;
+use crate::table::{first_bad_row, Table};
+use crate::{AGENTS, ROWS, TABLE_WORDS};
+
+/// The N bytes that `2 * N` upper-case hexadecimal digits stand for.
+pub fn bytes_of_digits<const N: usize>(digits: &[[u8; 2]; N]) -> Option<[u8; N]> {
+    let nibble = |c: u8| {
+        let digit = c.wrapping_sub(b'0');
+        let letter = c.wrapping_sub(b'A');
+        let value = if digit < 10 { digit } else { letter.wrapping_add(10) };
+        (value, (digit >= 10) & (letter >= 6))
+    };
+    let mut bytes = [0; N];
+    let mut bad = false;
+    for (byte, &[high, low]) in bytes.iter_mut().zip(digits) {
+        let (high, bad_high) = nibble(high);
+        let (low, bad_low) = nibble(low);
+        *byte = high << 4 | low & 15;
+        bad |= bad_high | bad_low;
+    }
+    (!bad).then_some(bytes)
+}
+
+/// The first line where it is `2 * N` hexadecimal digits and a newline.
+pub fn digit_line<const N: usize>(text: &[u8]) -> Option<[u8; N]> {
+    let (digits, rest) = text.split_at_checked(2 * N)?;
+    if rest.first() != Some(&b'\n') {
+        return None;
+    }
+    bytes_of_digits(digits.as_chunks().0.try_into().unwrap())
+}
+
+fn number(bytes: &[u8; 18], at: usize) -> u32 {
+    u32::from_be_bytes(bytes[at..at + 4].try_into().unwrap())
+}
+
+/// Reads all lines for 2 and 3 into blank words. A refusal is a reply and its line.
+fn lines(text: &[u8], words: &mut [u32; TABLE_WORDS]) -> Result<(), (u32, u32)> {
+    let mut left = text;
+    let mut agents = 0;
+    let mut rows = 0;
+    for line in 1.. {
+        if left.is_empty() {
+            return Err((LINE_OUT_OF_PLACE, line));
+        }
+        let Some(bytes) = digit_line::<18>(left) else {
+            let Some(rest) = left.strip_prefix(b"FF\n") else {
+                return Err((MALFORMED_LINE, line));
+            };
+            if agents == 0 || rows == 0 {
+                return Err((LINE_OUT_OF_PLACE, line));
+            }
+            if !rest.is_empty() {
+                return Err((LINE_OUT_OF_PLACE, line + 1));
+            }
+            words[agents] = rows as u32;
+            words[0] = agents as u32;
+            return Ok(());
+        };
+        let agent = usize::from(bytes[1]);
+        match bytes[0] {
+            0 => {
+                if agent != agents || agents == AGENTS || (agents > 0 && rows == 0) {
+                    return Err((LINE_OUT_OF_PLACE, line));
+                }
+                // Before the first agent this writes word 0, which the end line sets.
+                words[agents] = rows as u32;
+                for register in 0..4 {
+                    words[17 + 4 * agents + register] = number(&bytes, 2 + 4 * register);
+                }
+                agents += 1;
+                rows = 0;
+            }
+            1 => {
+                if agent + 1 != agents || rows == ROWS {
+                    return Err((LINE_OUT_OF_PLACE, line));
+                }
+                let row: &mut [u32; 4] = words[81 + 4 * (ROWS * agent + rows)..]
+                    .first_chunk_mut()
+                    .expect("at most 32 rows of at most 16 agents");
+                *row = [2, 6, 10, 14].map(|at| number(&bytes, at));
+                rows += 1;
+            }
+            _ => return Err((MALFORMED_LINE, line)),
+        }
+        left = &left[37..];
+    }
+    unreachable!()
+}
+
+/// The first row that breaks one of 4 to 7, with its line: each agent has a line, and each row.
+fn rows_of(words: &[u32; TABLE_WORDS]) -> Result<(), (u32, u32)> {
+    let table = Table::of(words);
+    let mut line = 1;
+    for (a, &count) in table.counts[..table.agents].iter().enumerate() {
+        line += 1;
+        if let Some((reply, i)) = first_bad_row(&table.places(a)[..count as usize]) {
+            return Err((reply, line + i as u32));
+        }
+        line += count;
+    }
+    Ok(())
+}
+
+/// Reads a text into a lent table.
+pub fn read(text: &[u8], table: &mut [u32]) -> (u32, u32) {
+    let Some(table) = table.first_chunk_mut() else {
+        return (BUFFER_TOO_SHORT, 0);
+    };
+    let mut words = [0; TABLE_WORDS];
+    match lines(text, &mut words).and_then(|()| rows_of(&words)) {
+        Err(refusal) => refusal,
+        Ok(()) => {
+            *table = words;
+            (ACCEPTED, 0)
+        }
+    }
+}

@@ -1,0 +1,233 @@
+//! The words of a state; start, step and run.
+
+use crate::reply::*;
+use crate::table::{checked, Row, Table, SEND};
+use crate::{any_set, AGENTS, LAST_TIME, ROWS, STATE_WORDS, TABLE_WORDS};
+
+/// The parts of a state's words.
+pub struct State<'a> {
+    clock: &'a mut u32,
+    positions: &'a mut [u32; AGENTS],
+    registers: &'a mut [[u32; 4]; AGENTS],
+    marks: &'a mut [[u32; ROWS]; AGENTS],
+    values: &'a mut [[u32; ROWS]; AGENTS],
+}
+
+impl<'a> State<'a> {
+    pub fn of(words: &'a mut [u32; STATE_WORDS]) -> State<'a> {
+        let (clock, rest) = words.split_first_mut().unwrap();
+        let (positions, rest) = rest.split_at_mut(AGENTS);
+        let (registers, rest) = rest.split_at_mut(4 * AGENTS);
+        let (marks, values) = rest.split_at_mut(ROWS * AGENTS);
+        State {
+            clock,
+            positions: positions.try_into().unwrap(),
+            registers: registers.as_chunks_mut().0.try_into().unwrap(),
+            marks: marks.as_chunks_mut().0.try_into().unwrap(),
+            values: values.as_chunks_mut().0.try_into().unwrap(),
+        }
+    }
+
+    /// Clock 1, positions 0, the table's registers, no marks.
+    pub fn start(words: &'a mut [u32; STATE_WORDS], table: &Table) -> State<'a> {
+        words.fill(0);
+        words[0] = 1;
+        words[17..81].copy_from_slice(table.registers);
+        State::of(words)
+    }
+
+    fn fits(&self, table: &Table) -> bool {
+        let agents = table.agents;
+        if self.clock.wrapping_sub(1) >= LAST_TIME
+            || any_set(&self.positions[agents..])
+            || any_set(self.registers[agents..].as_flattened())
+            || any_set(self.marks[agents..].as_flattened())
+            || any_set(self.values[agents..].as_flattened())
+        {
+            return false;
+        }
+        for (a, &count) in table.counts[..agents].iter().enumerate() {
+            let position = self.positions[a];
+            if position > count {
+                return false;
+            }
+            let passed = position as usize;
+            let rows = table.places(a);
+            if position < count && *self.clock > rows[passed][3] {
+                return false;
+            }
+            let (marks, no_marks) = self.marks[a].split_at(passed);
+            let (values, no_values) = self.values[a].split_at(passed);
+            let mut bad = any_set(no_marks) | any_set(no_values);
+            for ((&mark, &value), &[code, ..]) in marks.iter().zip(values).zip(rows) {
+                let marked = (mark == 1) & (code >> 24 == SEND);
+                let unmarked = (mark == 0) & (value == 0);
+                bad |= !(marked | unmarked);
+            }
+            if bad {
+                return false;
+            }
+        }
+        true
+    }
+
+    /// The value of the best message visible to this row. That lates do not fall along the rows is
+    /// not made use of: change request T-03 gives it up.
+    fn best(&self, table: &Table, [_, k, early, _]: Row) -> Option<u32> {
+        let mut best = None;
+        let mut best_late = 0;
+        for a in 0..table.agents {
+            let passed = (self.positions[a] as usize).min(ROWS);
+            let rows = table.places(a);
+            let marks = &self.marks[a];
+            // Downwards, so that of an agent's messages of one late the higher row comes first.
+            for i in (0..passed).rev() {
+                if marks[i] != 0 {
+                    let [_, sent_k, _, late] = rows[i];
+                    if sent_k == k && late < early && late > best_late {
+                        best_late = late;
+                        best = Some(self.values[a][i]);
+                    }
+                }
+            }
+        }
+        best
+    }
+
+    /// An agent's position and registers.
+    pub fn agent(&self, a: usize) -> (u32, [u32; 4]) {
+        (self.positions[a], self.registers[a])
+    }
+}
+
+/// The lates of the agents' current rows, for the deadline; the greatest number for those that
+/// have ended.
+pub struct Lates([u32; AGENTS]);
+
+impl Lates {
+    pub fn of(table: &Table, state: &State) -> Lates {
+        let mut lates = [u32::MAX; AGENTS];
+        for (a, late) in lates.iter_mut().enumerate().take(table.agents) {
+            if state.positions[a] < table.counts[a] {
+                *late = table.places(a)[state.positions[a] as usize][3];
+            }
+        }
+        Lates(lates)
+    }
+
+    fn deadline(&self) -> u32 {
+        self.0.iter().fold(u32::MAX, |least, &late| least.min(late))
+    }
+}
+
+/// One step of a state that fits its table.
+///
+/// Reply 14 is not tested for: of the unfinished agents the one of least late can be run at the
+/// greater of the clock and its early, so it is never given.
+#[inline(always)]
+pub fn take(table: &Table, state: &mut State, lates: &mut Lates, agent: u32, time: u32) -> u32 {
+    let a = agent as usize;
+    if a >= table.agents.min(AGENTS) {
+        return NO_SUCH_AGENT;
+    }
+    let count = table.counts[a];
+    let position = state.positions[a];
+    let rows = table.places(a);
+    if position >= count {
+        return AGENT_ENDED;
+    }
+    let row = rows[position as usize % ROWS];
+    let [code, k, early, _] = row;
+    if time < *state.clock {
+        return TIME_BELOW_CLOCK;
+    }
+    if time < early {
+        return TIME_BELOW_EARLY;
+    }
+    if time > lates.deadline() {
+        return TIME_ABOVE_LATE;
+    }
+    let x = (code >> 16 & 3) as usize;
+    let y = (code >> 8 & 3) as usize;
+    let mut n = code & 0xFF;
+    let registers = &mut state.registers[a];
+    match code >> 24 {
+        0x00 => registers[x] = k,
+        0x01 => registers[x] = registers[x].wrapping_add(registers[y]),
+        0x02 => registers[x] = registers[x].wrapping_sub(registers[y]),
+        0x03 => registers[x] = registers[y].count_ones(),
+        0x04 => registers[x] = registers[y].trailing_zeros(),
+        0x10 if registers[x] != 0 => n = 0,
+        0x10 | 0x11 => {}
+        0x20 => {
+            let value = registers[x];
+            state.marks[a][position as usize % ROWS] = 1;
+            state.values[a][position as usize % ROWS] = value;
+        }
+        _ => {
+            if let Some(value) = state.best(table, row) {
+                state.registers[a][x] = value;
+                n = 0;
+            }
+        }
+    }
+    let after = position + 1 + n;
+    state.positions[a] = after;
+    lates.0[a] = if after < count { rows[after as usize % ROWS][3] } else { u32::MAX };
+    *state.clock = time;
+    ACCEPTED
+}
+
+/// Makes the start state.
+pub fn start(table: &[u32], state: &mut [u32]) -> u32 {
+    let (Some(words), Some(state)) = (table.first_chunk(), state.first_chunk_mut()) else {
+        return BUFFER_TOO_SHORT;
+    };
+    let Some(table) = checked(words) else {
+        return BAD_TABLE;
+    };
+    State::start(state, &table);
+    ACCEPTED
+}
+
+/// One step.
+pub fn step(table: &[u32], state: &mut [u32], agent: u32, time: u32) -> u32 {
+    let (Some(words), Some(state)) = (table.first_chunk::<TABLE_WORDS>(), state.first_chunk_mut())
+    else {
+        return BUFFER_TOO_SHORT;
+    };
+    let Some(table) = checked(words) else {
+        return BAD_TABLE;
+    };
+    let mut state = State::of(state);
+    if !state.fits(&table) {
+        return BAD_STATE;
+    }
+    let mut lates = Lates::of(&table, &state);
+    take(&table, &mut state, &mut lates, agent, time)
+}
+
+/// A run from the start state.
+pub fn run(table: &[u32], state: &mut [u32], choices: &[u32]) -> (u32, u32) {
+    let (Some(words), Some(state)) = (table.first_chunk::<TABLE_WORDS>(), state.first_chunk_mut())
+    else {
+        return (BUFFER_TOO_SHORT, 0);
+    };
+    let (choices, []) = choices.as_chunks::<2>() else {
+        return (ODD_CHOICES, 0);
+    };
+    let Some(table) = checked(words) else {
+        return (BAD_TABLE, 0);
+    };
+    let mut state = State::start(state, &table);
+    let mut lates = Lates::of(&table, &state);
+    let mut count = 0;
+    for &[agent, time] in choices {
+        let reply = take(&table, &mut state, &mut lates, agent, time);
+        if reply != ACCEPTED {
+            return (reply, count);
+        }
+        count += 1;
+    }
+    (ACCEPTED, count)
+}

@@ -1,0 +1,28 @@
+//! Document 01 once more, in plain Rust, written from the paper alone.
+//!
+//! It is here to be compared with the proved library, so it is direct and not quick: words are
+//! decoded into tables and states, worked on as such, and encoded again.
+
+pub mod executive;
+pub mod reader;
+pub mod reply;
+pub mod table;
+pub mod trace;
+
+pub use executive::{fits, run, start, step, State};
+pub use reader::read;
+pub use table::{check, Agent, Row, Table};
+pub use trace::trace;
+
+/// Words of a table.
+pub const TABLE_WORDS: usize = 2129;
+/// Words of a state.
+pub const STATE_WORDS: usize = 1105;
+/// Most agents of a table.
+pub const AGENTS: usize = 16;
+/// Most rows of an agent.
+pub const ROWS: usize = 32;
+/// Registers of an agent.
+pub const REGISTERS: usize = 4;
+/// The last time that a window may reach.
+pub const LAST_TIME: u32 = 1_000_000;

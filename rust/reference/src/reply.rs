@@ -1,0 +1,20 @@
+//! The numbers of the replies.
+
+pub const ACCEPTED: u32 = 0;
+pub const BUFFER_TOO_SHORT: u32 = 1;
+pub const MALFORMED_LINE: u32 = 2;
+pub const LINE_OUT_OF_PLACE: u32 = 3;
+pub const BAD_FIELD: u32 = 4;
+pub const BAD_TARGET: u32 = 5;
+pub const BAD_WINDOW: u32 = 6;
+pub const WINDOW_GOES_BACK: u32 = 7;
+pub const BAD_TABLE: u32 = 8;
+pub const BAD_STATE: u32 = 9;
+pub const NO_SUCH_AGENT: u32 = 10;
+pub const AGENT_ENDED: u32 = 11;
+pub const TIME_BELOW_CLOCK: u32 = 12;
+pub const TIME_BELOW_EARLY: u32 = 13;
+pub const STUCK: u32 = 14;
+pub const TIME_ABOVE_LATE: u32 = 15;
+pub const ODD_CHOICES: u32 = 16;
+pub const INPUT_TOO_LONG: u32 = 17;

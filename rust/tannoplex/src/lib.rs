@@ -1,0 +1,150 @@
+//! The executive for instruction time windows, proved, as a safe Rust crate.
+//!
+//! A *table* gives each agent its rows, each with a window from `early` to `late`. A *state* says
+//! how far each agent is and what was sent. A *choice* is an agent and a time; whether it is
+//! accepted, and what it does, is decided by the table and the state alone. However the choices
+//! are ordered, each agent passes through the same states.
+//!
+//! Tables and states are words of 32 bits in buffers that the caller lends, [`TABLE_WORDS`] and
+//! [`STATE_WORDS`] long or longer; words past these lengths are never read or written. Nothing is
+//! allocated and nothing is kept between calls. Every refusal leaves the lent buffers as they were,
+//! with one exception: a [`run`] that is refused at a choice leaves the state after the steps that
+//! were accepted before it.
+//!
+//! ```
+//! use tannoplex::{Reply, STATE_WORDS, TABLE_WORDS};
+//!
+//! let text = b"000000000005000000000000000000000000\n\
+//!              010020000000000000070000000100000003\n\
+//!              000100000000000000000000000000000000\n\
+//!              010130010000000000070000000400000008\n\
+//!              FF\n";
+//! let mut table = [0; TABLE_WORDS];
+//! assert_eq!(tannoplex::read(text, &mut table).reply, Reply::Accepted);
+//!
+//! let mut state = [0; STATE_WORDS];
+//! let ran = tannoplex::run(&table, &mut state, &[0, 3, 1, 4]);
+//! assert_eq!((ran.reply, ran.count), (Reply::Accepted, 2));
+//! assert_eq!(tannoplex::register(&state, 1, 1), 5);
+//! ```
+
+#![warn(missing_docs)]
+
+mod archive;
+mod reply;
+
+pub use reply::Reply;
+
+/// Words of a table.
+pub const TABLE_WORDS: usize = 2129;
+/// Words of a state.
+pub const STATE_WORDS: usize = 1105;
+/// Most agents of a table, and the agents that a state has words for.
+pub const AGENTS: usize = 16;
+/// Most rows of an agent.
+pub const ROWS: usize = 32;
+/// Registers of an agent.
+pub const REGISTERS: usize = 4;
+
+/// What [`read`] answers.
+#[derive(Clone, Copy, Debug, PartialEq, Eq)]
+#[must_use]
+pub struct Told {
+    /// [`Reply::Accepted`], or why the text was refused.
+    pub reply: Reply,
+    /// The line that is refused, counted from 1; 0 with [`Reply::Accepted`] and
+    /// [`Reply::BufferTooShort`].
+    pub line: u32,
+}
+
+/// What [`run`] answers.
+#[derive(Clone, Copy, Debug, PartialEq, Eq)]
+#[must_use]
+pub struct Ran {
+    /// [`Reply::Accepted`] where every choice was accepted, else the first refusal.
+    pub reply: Reply,
+    /// How many steps were accepted before it.
+    pub count: u32,
+}
+
+/// Reads the text of a table into `table`.
+///
+/// Replies [`Reply::BufferTooShort`] first, then 2 and 3 for the earliest line, then 4 to 7 for the
+/// first row. On success the table's words are written, unused ones 0.
+pub fn read(text: &[u8], table: &mut [u32]) -> Told {
+    // SAFETY: both pointers come with the lengths of the slices they are taken from, and the
+    // borrows last until the call returns; one is exclusive, so the buffers do not overlap.
+    let told = unsafe {
+        archive::tannoplex_read(text.as_ptr(), text.len(), table.as_mut_ptr(), table.len())
+    };
+    Told { reply: Reply::of(told.reply), line: told.line }
+}
+
+/// Checks the words of a table: [`Reply::BufferTooShort`], [`Reply::BadTable`] or
+/// [`Reply::Accepted`].
+pub fn check(table: &[u32]) -> Reply {
+    // SAFETY: as in `read`; nothing is written.
+    Reply::of(unsafe { archive::tannoplex_check(table.as_ptr(), table.len()) })
+}
+
+/// Makes the start state of a table: clock 1, positions 0, the table's registers, no marks.
+pub fn start(table: &[u32], state: &mut [u32]) -> Reply {
+    // SAFETY: as in `read`.
+    Reply::of(unsafe {
+        archive::tannoplex_start(table.as_ptr(), table.len(), state.as_mut_ptr(), state.len())
+    })
+}
+
+/// One step of `agent` at `time`. Any numbers may be given.
+pub fn step(table: &[u32], state: &mut [u32], agent: u32, time: u32) -> Reply {
+    // SAFETY: as in `read`.
+    Reply::of(unsafe {
+        archive::tannoplex_step(
+            table.as_ptr(),
+            table.len(),
+            state.as_mut_ptr(),
+            state.len(),
+            agent,
+            time,
+        )
+    })
+}
+
+/// A run from the start state over `choices`, two words each: agent, then time.
+pub fn run(table: &[u32], state: &mut [u32], choices: &[u32]) -> Ran {
+    // SAFETY: as in `read`; the two shared slices may be one, since neither is written.
+    let ran = unsafe {
+        archive::tannoplex_run(
+            table.as_ptr(),
+            table.len(),
+            state.as_mut_ptr(),
+            state.len(),
+            choices.as_ptr(),
+            choices.len(),
+        )
+    };
+    Ran { reply: Reply::of(ran.reply), count: ran.count }
+}
+
+/// The clock of a state.
+///
+/// This and the next two functions only read a word; they check nothing, and panic where the buffer
+/// is too short or the agent or register does not exist.
+#[must_use]
+pub fn clock(state: &[u32]) -> u32 {
+    state[0]
+}
+
+/// The position of an agent; equal to its row count once it has ended.
+#[must_use]
+pub fn position(state: &[u32], agent: usize) -> u32 {
+    assert!(agent < AGENTS, "no agent {agent}");
+    state[1 + agent]
+}
+
+/// A register of an agent.
+#[must_use]
+pub fn register(state: &[u32], agent: usize, register: usize) -> u32 {
+    assert!(agent < AGENTS && register < REGISTERS, "no register {register} of agent {agent}");
+    state[1 + AGENTS + REGISTERS * agent + register]
+}
