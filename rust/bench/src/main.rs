@@ -1,6 +1,7 @@
 //! Prints what the proved calls cost, beside an optimised Rust implementation and a plain sum.
 //!
-//! `bench` prints the tables. `bench only NAME SIDE TURNS`, where SIDE is `proved`, `quick` or `sum`,
+//! `bench` prints the tables. `bench only NAME SIDE TURNS`, where SIDE is `proved`, `quick`, `stopping` or
+//! `sum`,
 //! does that row alone and times nothing, for a counter of instructions such as callgrind.
 
 mod inputs;
@@ -12,29 +13,54 @@ use std::process::ExitCode;
 use reference::{Table, AGENTS, ROWS};
 
 fn print_table() {
-    println!("| call | proved | quick | ratio | sum | inputs |");
-    println!("|---|---:|---:|---:|---:|---|");
+    println!("| call | proved | quick | ratio | stopping | ratio | sum | inputs |");
+    println!("|---|---:|---:|---:|---:|---:|---:|---|");
     let mut between = Vec::new();
-    for mut row in rows::all() {
-        let works = [&mut row.proved, &mut row.quick, &mut row.sum];
-        let [proved, quick, sum] = measure::least(works, row.calls);
-        let ratio = proved / quick;
-        let (proved, quick, sum) = (micros(proved), micros(quick), micros(sum));
-        println!("| {} | {proved} | {quick} | {ratio:.2} | {sum} | {} |", row.name, row.what);
-        between.push((row.name, row.between));
+    for (name, row) in rows::ALL {
+        let mut row = row();
+        let [proved, quick, sum, stopping] = match &mut row.stopping {
+            Some(stopping) => {
+                let works = [&mut row.proved, &mut row.quick, &mut row.sum, stopping];
+                measure::least(works, row.calls).map(Some)
+            }
+            None => {
+                let works = [&mut row.proved, &mut row.quick, &mut row.sum];
+                let [proved, quick, sum] = measure::least(works, row.calls).map(Some);
+                [proved, quick, sum, None]
+            }
+        };
+        let ratios = [ratio(proved, quick), ratio(proved, stopping)];
+        let [proved, quick, sum, stopping] = [proved, quick, sum, stopping].map(micros);
+        let times = format!("{proved} | {quick} | {} | {stopping} | {}", ratios[0], ratios[1]);
+        println!("| {name} | {times} | {sum} | {} |", row.what);
+        between.push((name, row.between));
     }
     println!();
-    println!("Microseconds for one call, the least of many turns in which the three alternate.");
-    println!("`sum` adds up the words that the call is lent, the bytes of the text for read.");
-    println!("Done to the buffers between calls:");
+    println!(
+        "Microseconds for one call, the least of many turns in which the sides alternate. A ratio"
+    );
+    println!(
+        "is the proved time over that before it. `stopping` is `quick` with a search that leaves"
+    );
+    println!(
+        "an agent at its first visible message from above. `sum` adds up the words that the call"
+    );
+    println!("is lent, the bytes of the text for read. Done to the buffers between calls:");
+    println!();
     for (name, between) in between {
         println!("- {name}: {between}.");
     }
+    println!();
     println!("The trace program's work is not measured: the archive does not export it.");
 }
 
-fn micros(nanos: f64) -> String {
-    format!("{:.2}", nanos / 1000.0)
+/// A time in nanoseconds as microseconds; a dash where there is none.
+fn micros(nanos: Option<f64>) -> String {
+    nanos.map_or("-".to_string(), |nanos| format!("{:.2}", nanos / 1000.0))
+}
+
+fn ratio(proved: Option<f64>, other: Option<f64>) -> String {
+    proved.zip(other).map_or("-".to_string(), |(proved, other)| format!("{:.2}", proved / other))
 }
 
 /// How the cost of a run grows with one number.
@@ -45,11 +71,13 @@ fn print_growth(what: &str, numbers: &[usize], table: impl Fn(usize) -> Table) {
     for &number in numbers {
         let table = table(number);
         let steps = inputs::choices(&table).len();
-        let mut row = rows::run("run", "", &table);
-        let [proved, quick] = measure::least([&mut row.proved, &mut row.quick], row.calls);
-        let a_step = format!("{:.3}", proved / 1000.0 / steps as f64);
-        let (ratio, proved, quick) = (proved / quick, micros(proved), micros(quick));
-        println!("| {number} | {steps} | {proved} | {quick} | {ratio:.2} | {a_step} |");
+        let mut row = rows::run("", &table);
+        let works = [&mut row.proved, &mut row.quick];
+        let [proved, quick] = measure::least(works, row.calls).map(Some);
+        let a_step = micros(proved.map(|proved| proved / steps as f64));
+        let ratio = ratio(proved, quick);
+        let (proved, quick) = (micros(proved), micros(quick));
+        println!("| {number} | {steps} | {proved} | {quick} | {ratio} | {a_step} |");
     }
 }
 
@@ -70,11 +98,12 @@ fn print_all() {
 
 fn only(name: &str, side: &str, turns: &str) -> Result<(), String> {
     let turns: usize = turns.parse().map_err(|_| format!("{turns} is no number of turns"))?;
-    let row = rows::all().into_iter().find(|row| row.name == name);
-    let row = row.ok_or_else(|| format!("no row {name}"))?;
+    let found = rows::ALL.into_iter().find(|row| row.0 == name);
+    let row = found.ok_or_else(|| format!("no row {name}"))?.1();
     let mut work = match side {
         "proved" => row.proved,
         "quick" => row.quick,
+        "stopping" => row.stopping.ok_or_else(|| format!("{name} searches for no message"))?,
         "sum" => row.sum,
         _ => return Err(format!("no side {side}")),
     };

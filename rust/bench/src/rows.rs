@@ -7,15 +7,16 @@ use reference::{Table, AGENTS, ROWS, STATE_WORDS, TABLE_WORDS};
 use crate::inputs;
 use crate::measure::Work;
 
-/// One row: the same calls on the same inputs by the proved library, by `quick`, and a plain sum over
-/// the same words.
+/// One row: the same calls on the same inputs by the proved library and by `quick`, and a plain sum
+/// over the same words.
 pub struct Row {
-    pub name: &'static str,
     pub what: String,
     pub between: &'static str,
     pub calls: usize,
     pub proved: Box<dyn Work>,
     pub quick: Box<dyn Work>,
+    /// `quick` with the search that stops early, where the call searches.
+    pub stopping: Option<Box<dyn Work>>,
     pub sum: Box<dyn Work>,
 }
 
@@ -48,12 +49,12 @@ fn check() -> Row {
     let proved = words.clone();
     let quick = words.clone();
     Row {
-        name: "check",
         what: "16 agents of 32 rows, accepted".to_string(),
         between: "nothing; no buffer is written",
         calls: CALLS,
         proved: again(move || assert!(tannoplex::check(black_box(&proved)).is_accepted())),
         quick: again(move || assert_eq!(quick::check(black_box(&quick)), 0)),
+        stopping: None,
         sum: again(move || {
             black_box(sum(black_box(&words)));
         }),
@@ -66,7 +67,6 @@ fn read() -> Row {
     let mut proved_table = vec![0; TABLE_WORDS];
     let mut quick_table = vec![0; TABLE_WORDS];
     Row {
-        name: "read",
         what: format!("the same table, {} bytes of text", text.len()),
         between: "nothing; each call writes the same table over the last",
         calls: CALLS,
@@ -76,6 +76,7 @@ fn read() -> Row {
         quick: again(move || {
             assert_eq!(quick::read(black_box(&quick), &mut quick_table), (0, 0));
         }),
+        stopping: None,
         sum: again(move || {
             black_box(sum_of_bytes(black_box(&text)));
         }),
@@ -128,8 +129,7 @@ where
 
 fn step() -> Row {
     Row {
-        name: "step",
-        what: "the same table, 31 states along a run, half of the rows RECV".to_string(),
+        what: "the same table, 31 states along a run, half of them at a RECV".to_string(),
         between: "the states are put back before each turn, outside the time",
         calls: 31,
         proved: steps(|table, state, agent, time| {
@@ -138,35 +138,43 @@ fn step() -> Row {
         quick: steps(|table, state, agent, time| {
             assert_eq!(quick::step(table, state, agent, time), 0);
         }),
+        stopping: Some(steps(|table, state, agent, time| {
+            assert_eq!(quick::step_stopping(table, state, agent, time), 0);
+        })),
         sum: steps(|table, state, _, _| {
             black_box(sum(table).wrapping_add(sum(state)));
         }),
     }
 }
 
+/// Whole runs, each accepted to its end.
+fn runs<F>(words: &[u32], choices: &[u32], mut run: F) -> Box<dyn Work>
+where
+    F: FnMut(&[u32], &mut [u32], &[u32]) -> (u32, u32) + 'static,
+{
+    let (words, choices) = (words.to_vec(), choices.to_vec());
+    let mut state = vec![0; STATE_WORDS];
+    let count = choices.len() as u32 / 2;
+    again(move || assert_eq!(run(black_box(&words), &mut state, black_box(&choices)), (0, count)))
+}
+
 /// A row for whole runs of this table.
-pub fn run(name: &'static str, what: &str, table: &Table) -> Row {
+pub fn run(what: &str, table: &Table) -> Row {
     let words = table.to_words();
     let choices = inputs::choices(table);
     let count = choices.len() as u32;
     let choices = choices.as_flattened().to_vec();
-    let (proved, quick) = ((words.clone(), choices.clone()), (words.clone(), choices.clone()));
-    let mut proved_state = vec![0; STATE_WORDS];
-    let mut quick_state = vec![0; STATE_WORDS];
     let sum_state = vec![0; STATE_WORDS];
     Row {
-        name,
         what: format!("{what}, {count} accepted steps"),
         between: "nothing; each run begins at the start state and writes every word",
         calls: CALLS,
-        proved: again(move || {
-            let ran = tannoplex::run(black_box(&proved.0), &mut proved_state, black_box(&proved.1));
-            assert_eq!(ran.count, count);
+        proved: runs(&words, &choices, |table, state, choices| {
+            let ran = tannoplex::run(table, state, choices);
+            (ran.reply.number(), ran.count)
         }),
-        quick: again(move || {
-            let ran = quick::run(black_box(&quick.0), &mut quick_state, black_box(&quick.1));
-            assert_eq!(ran, (0, count));
-        }),
+        quick: runs(&words, &choices, quick::run),
+        stopping: Some(runs(&words, &choices, quick::run_stopping)),
         sum: again(move || {
             black_box(sum(black_box(&words)));
             black_box(sum(black_box(&choices)));
@@ -175,16 +183,29 @@ pub fn run(name: &'static str, what: &str, table: &Table) -> Row {
     }
 }
 
-/// All rows of the table.
-pub fn all() -> Vec<Row> {
-    let few = inputs::table(3, ROWS, inputs::MANY_RECVS);
-    let none = inputs::table(AGENTS, ROWS, inputs::NO_RECVS);
-    vec![
-        check(),
-        read(),
-        step(),
-        run("run, many RECVs", "16 agents of 32 rows, every second a RECV", &full_table()),
-        run("run, no RECVs", "16 agents of 32 rows, no RECV", &none),
-        run("run, 3 agents", "3 agents of 32 rows, every second a RECV", &few),
-    ]
+fn run_many_recvs() -> Row {
+    run("16 agents of 32 rows, every second a RECV", &full_table())
 }
+
+fn run_no_recvs() -> Row {
+    let table = inputs::table(AGENTS, ROWS, inputs::NO_RECVS);
+    run("16 agents of 32 rows, no RECV", &table)
+}
+
+fn run_3_agents() -> Row {
+    let table = inputs::table(3, ROWS, inputs::MANY_RECVS);
+    run("3 agents of 32 rows, every second a RECV", &table)
+}
+
+/// A row's name, and how it is made.
+pub type Named = (&'static str, fn() -> Row);
+
+/// All rows of the table.
+pub const ALL: [Named; 6] = [
+    ("check", check),
+    ("read", read),
+    ("step", step),
+    ("run, many RECVs", run_many_recvs),
+    ("run, no RECVs", run_no_recvs),
+    ("run, 3 agents", run_3_agents),
+];

@@ -37,6 +37,13 @@ fn the_optimised_implementation_passes_and_the_floors_are_met() {
 }
 
 #[test]
+fn the_search_that_stops_early_passes() {
+    let board = Faulty { step: quick::step_stopping, run: quick::run_stopping, ..GOOD };
+    let plan = Plan(vec![(Kind::Step, 20_000), (Kind::LongRun, 10_000)]);
+    compare(&board, &plan, 2).unwrap_or_else(|failure| panic!("{failure}"));
+}
+
+#[test]
 fn a_comparison_of_nothing_is_below_every_floor() {
     let counts = compare(&Quick, &Plan(vec![]), 1).unwrap();
     assert!(counts.below_floors().len() > 20);

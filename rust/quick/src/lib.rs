@@ -4,7 +4,8 @@
 //! It works on the lent words where they stand, tests many words without a branch for each, and
 //! looks for messages only in rows that their agent has passed. Its cost is that of the paper's own
 //! account: one check of the table, for each step the number of agents, and for a RECV the places
-//! that it looks at. It keeps no index between steps.
+//! that it looks at. It keeps no index between steps. The calls named `stopping` look at fewer places,
+//! by a rule of the base that a later request gives up.
 
 #![no_std]
 
@@ -14,7 +15,7 @@ mod table;
 mod trace;
 
 pub use reader::read;
-pub use steps::{run, start, step};
+pub use steps::{run, run_stopping, start, step, step_stopping};
 pub use table::check;
 pub use trace::{trace, OUTPUT_BYTES};
 

@@ -71,9 +71,11 @@ impl<'a> State<'a> {
         true
     }
 
-    /// The value of the best message visible to this row. That lates do not fall along the rows is
-    /// not made use of: change request T-03 gives it up.
-    fn best(&self, table: &Table, [_, k, early, _]: Row) -> Option<u32> {
+    /// The value of the best message visible to this row.
+    ///
+    /// With STOPS it leaves an agent at the first visible message from above: lates do not fall along
+    /// the rows, so that is the agent's best. Change request T-03 gives this up.
+    fn best<const STOPS: bool>(&self, table: &Table, [_, k, early, _]: Row) -> Option<u32> {
         let mut best = None;
         let mut best_late = 0;
         for a in 0..table.agents {
@@ -82,12 +84,14 @@ impl<'a> State<'a> {
             let marks = &self.marks[a];
             // Downwards, so that of an agent's messages of one late the higher row comes first.
             for i in (0..passed).rev() {
-                if marks[i] != 0 {
-                    let [_, sent_k, _, late] = rows[i];
-                    if sent_k == k && late < early && late > best_late {
-                        best_late = late;
-                        best = Some(self.values[a][i]);
-                    }
+                let [_, sent_k, _, late] = rows[i];
+                let is_seen = late < early && marks[i] != 0 && sent_k == k;
+                if late > best_late && is_seen {
+                    best_late = late;
+                    best = Some(self.values[a][i]);
+                }
+                if STOPS && is_seen {
+                    break;
                 }
             }
         }
@@ -125,7 +129,13 @@ impl Lates {
 /// Reply 14 is not tested for: of the unfinished agents the one of least late can be run at the
 /// greater of the clock and its early, so it is never given.
 #[inline(always)]
-pub fn take(table: &Table, state: &mut State, lates: &mut Lates, agent: u32, time: u32) -> u32 {
+pub fn take<const STOPS: bool>(
+    table: &Table,
+    state: &mut State,
+    lates: &mut Lates,
+    agent: u32,
+    time: u32,
+) -> u32 {
     let a = agent as usize;
     if a >= table.agents.min(AGENTS) {
         return NO_SUCH_AGENT;
@@ -165,7 +175,7 @@ pub fn take(table: &Table, state: &mut State, lates: &mut Lates, agent: u32, tim
             state.values[a][position as usize % ROWS] = value;
         }
         _ => {
-            if let Some(value) = state.best(table, row) {
+            if let Some(value) = state.best::<STOPS>(table, row) {
                 state.registers[a][x] = value;
                 n = 0;
             }
@@ -190,8 +200,7 @@ pub fn start(table: &[u32], state: &mut [u32]) -> u32 {
     ACCEPTED
 }
 
-/// One step.
-pub fn step(table: &[u32], state: &mut [u32], agent: u32, time: u32) -> u32 {
+fn any_step<const STOPS: bool>(table: &[u32], state: &mut [u32], agent: u32, time: u32) -> u32 {
     let (Some(words), Some(state)) = (table.first_chunk::<TABLE_WORDS>(), state.first_chunk_mut())
     else {
         return BUFFER_TOO_SHORT;
@@ -204,11 +213,10 @@ pub fn step(table: &[u32], state: &mut [u32], agent: u32, time: u32) -> u32 {
         return BAD_STATE;
     }
     let mut lates = Lates::of(&table, &state);
-    take(&table, &mut state, &mut lates, agent, time)
+    take::<STOPS>(&table, &mut state, &mut lates, agent, time)
 }
 
-/// A run from the start state.
-pub fn run(table: &[u32], state: &mut [u32], choices: &[u32]) -> (u32, u32) {
+fn any_run<const STOPS: bool>(table: &[u32], state: &mut [u32], choices: &[u32]) -> (u32, u32) {
     let (Some(words), Some(state)) = (table.first_chunk::<TABLE_WORDS>(), state.first_chunk_mut())
     else {
         return (BUFFER_TOO_SHORT, 0);
@@ -223,11 +231,31 @@ pub fn run(table: &[u32], state: &mut [u32], choices: &[u32]) -> (u32, u32) {
     let mut lates = Lates::of(&table, &state);
     let mut count = 0;
     for &[agent, time] in choices {
-        let reply = take(&table, &mut state, &mut lates, agent, time);
+        let reply = take::<STOPS>(&table, &mut state, &mut lates, agent, time);
         if reply != ACCEPTED {
             return (reply, count);
         }
         count += 1;
     }
     (ACCEPTED, count)
+}
+
+/// One step.
+pub fn step(table: &[u32], state: &mut [u32], agent: u32, time: u32) -> u32 {
+    any_step::<false>(table, state, agent, time)
+}
+
+/// One step whose search for a message stops at each agent's first.
+pub fn step_stopping(table: &[u32], state: &mut [u32], agent: u32, time: u32) -> u32 {
+    any_step::<true>(table, state, agent, time)
+}
+
+/// A run from the start state.
+pub fn run(table: &[u32], state: &mut [u32], choices: &[u32]) -> (u32, u32) {
+    any_run::<false>(table, state, choices)
+}
+
+/// A run whose searches for a message stop at each agent's first.
+pub fn run_stopping(table: &[u32], state: &mut [u32], choices: &[u32]) -> (u32, u32) {
+    any_run::<true>(table, state, choices)
 }

@@ -90,7 +90,7 @@ pub fn trace(input: &[u8], output: &mut [u8; OUTPUT_BYTES]) -> usize {
     let mut lates = Lates::of(&table, &state);
     let mut count = 0;
     for (agent, time) in choices.chunks(13).filter_map(choice) {
-        let reply = take(&table, &mut state, &mut lates, agent, time);
+        let reply = take::<false>(&table, &mut state, &mut lates, agent, time);
         if reply != ACCEPTED {
             return writer.end(reply, count);
         }
