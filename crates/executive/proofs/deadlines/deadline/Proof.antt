@@ -7,7 +7,7 @@ use lib.Dec.{leb}
 use Rattle.tables.specs.Basics.{allBelow}
 use Rattle.tables.specs.Layout.{agents}
 use Rattle.executive.specs.Fit.{unfinished, current, inTime}
-use Rattle.executive.proofs.Good.{few-agents, few-rows}
+use Rattle.tables.proofs.Good.{few as few-agents, few-rows}
 use Rattle.executive.proofs.Deadline.{below-next, leb-less, leb-more, no-limit}
 use Rattle.executive.proofs.deadlines.deadline.Statement.{statement}
 use Rattle.executive.proofs.deadlines.deadline.Tie as tie

@@ -6,7 +6,7 @@ use Rattle.tables.specs.Basics.{allBelow}
 use Rattle.tables.specs.Layout.{agents}
 use Rattle.tables.proofs.Passed.{not-all-below}
 use Rattle.executive.specs.Step.{canGo, stuck}
-use Rattle.executive.proofs.Good.{few-agents, few-rows}
+use Rattle.tables.proofs.Good.{few as few-agents, few-rows}
 use Rattle.executive.proofs.Deadline.{below-on}
 use Rattle.executive.proofs.deadlines.is_stuck.Statement.{statement}
 use Rattle.executive.proofs.deadlines.is_stuck.Tie as tie

@@ -5,7 +5,7 @@ use borrow.Author.Tests.{le-leb, lt-leb, lt-ltb, le-ltb}
 use Rattle.tables.specs.Basics.{first}
 use Rattle.tables.specs.Layout.{rowOf}
 use Rattle.executive.specs.Step.{choiceReply}
-use Rattle.executive.proofs.Good.{few-agents, few-rows}
+use Rattle.tables.proofs.Good.{few as few-agents, few-rows}
 use borrow.Author.Needs.{needs}
 use Rattle.executive.proofs.stepping.choice_reply.Statement.{statement}
 use Rattle.executive.proofs.stepping.choice_reply.Tie as tie
