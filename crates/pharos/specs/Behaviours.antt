@@ -11,6 +11,9 @@ use Rattle.pharos.specs.Model.{Agent, System, Good, step, Run, start, _�
 use Rattle.pharos.specs.Determinacy.{history, history-step, determinacy-of-states, Ended, same-end}
 use Rattle.pharos.specs.Instance.{model, system, executes-is-step}
 
+abbrev pub AllEnded : (T : Types) → SystemState T → Type 0
+AllEnded T g = (b : ℕ) → b < Types.agents T → Types.ended T b (g .st b) ≡ true
+
 module _ (T : Types) (ok : Assumptions T) where
   -- A behaviour as a run of the abstract model: it comes to the same, through the same states.
   record Abstract {g h : SystemState T} (r : Behaviour T g h) : Type 0 where
@@ -43,11 +46,8 @@ module _ (T : Types) (ok : Assumptions T) where
       let y = abstracted q in
       subst₂ (λ k l. Prefix k l ⊎ Prefix l k) (sym (x .passed b)) (sym (y .passed b)) (determinacy-of-states (x .run) (y .run) b)
 
-  abbrev pub AllEnded : SystemState T → Type 0
-  AllEnded g = (b : ℕ) → b < Types.agents T → Types.ended T b (g .st b) ≡ true
-
   -- Two behaviours from one system state that end every agent leave the same states and the same messages: only the time may differ.
-  pub same-ends : {g h f : SystemState T} → Behaviour T g h → Behaviour T g f → AllEnded h → AllEnded f → (h .st ≡ f .st) × (h .msgs ≡ f .msgs)
+  pub same-ends : {g h f : SystemState T} → Behaviour T g h → Behaviour T g f → AllEnded T h → AllEnded T f → (h .st ≡ f .st) × (h .msgs ≡ f .msgs)
   same-ends {h = h} {f} r q end end′ =
       let x = abstracted r in
       let y = abstracted q in

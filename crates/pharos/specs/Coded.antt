@@ -1,19 +1,19 @@
--- Records of words that stand for systems. What is asked of the executive, and what it then has: demand 3 on words, T-10, T-12.
+-- Records of words that stand for systems: what is asked of them, and what they then have, demand 3 on words among it.
 use mathlib.Core.Path.{_≡_, refl, ap, sym, subst, subst₂, _∙_}
 use mathlib.Core.Bool.{Bool, true, false, true≢false}
-use mathlib.Core.List.{List, [], _∷_, _++_, map, reverse, reverse-cons, append-nil, append-assoc}
+use mathlib.Core.List.{List, [], _∷_, _++_, append-nil, append-assoc}
 use mathlib.Core.Logic.{_⊎_, ite}
 use Prim.Native.Nat.{ℕ}
 use native.Mathlib.Decide.{ℕ-discrete}
 use Rattle.pharos.specs.Tail.{Prefix}
-use Rattle.pharos.specs.Model.{Model, Agent, System, Good, stepped, step, Run, start, _▸_, past, trace}
+use Rattle.pharos.specs.Model.{Model, System, Good, step, Run, start, _▸_}
 use Rattle.pharos.specs.Determinacy.{history, history-step, determinacy-of-states, Ended, same-end}
 
 pub record Coded (M : Model) : Type 1 where
   pub Words : Type 0
   pub Fit : Words → Type 0
   pub system : Words → System M
-  -- accepted choices, and the words after one; an acceptance may be stricter than the model's (T-10)
+  -- accepted choices, and the words after one; fewer may be accepted than the model allows
   pub accepts : Words → ℕ → ℕ → Bool
   pub move : Words → ℕ → ℕ → Words
   pub good : (w : Words) (a t : ℕ) → Fit w → accepts w a t ≡ true → Good (system w) a t
@@ -81,7 +81,7 @@ module _ {M : Model} (C : Coded M) where
           }
       go false y next = record { end = h; run = r; here = rw (walk, y) e; passed = λ b. rw (comes, y) (sym (append-nil _)) }
 
-  -- 9. Demand 3: for any two lists of choices from one state that fits, the states that an agent passes through in one begin those in the other.
+  -- 8. Demand 3: for any two lists of choices from one state that fits, the states that an agent passes through in one begin those in the other.
   pub demand-3 : (w : Words) → Fit w → (cs ds : List (ℕ × ℕ)) (b : ℕ)
       → Prefix (at w b ∷ comes w cs b) (at w b ∷ comes w ds b) ⊎ Prefix (at w b ∷ comes w ds b) (at w b ∷ comes w cs b)
   demand-3 w fit cs ds b =
@@ -99,7 +99,7 @@ module _ {M : Model} (C : Coded M) where
       ∙ same-end (x .run) (y .run) (subst (λ g. Ended g) (x .here) e) (subst (λ g. Ended g) (y .here) f)
       ∙ sym (ap (λ (g : System M). g .agent) (y .here))
 
-  -- T-12. A list cut in two, the first part accepted whole.
+  -- A list cut in two, the first part accepted whole.
   unfoldable pub whole : Words → List (ℕ × ℕ) → Bool
   whole w [] = true
   whole w (c ∷ cs) = elim (accepts w (c .0) (c .1)) [ true ↦ whole (move w (c .0) (c .1)) cs | false ↦ false ]

@@ -1,7 +1,7 @@
 -- Completion: where each step brings an agent nearer to its end, every way of going on ends every agent in a bounded number of steps.
 use mathlib.Core.Path.{_≡_, refl, subst}
 use mathlib.Core.Bool.{false}
-use mathlib.Core.Logic.{_⊎_, ⊎-elim, if-pos}
+use mathlib.Core.Logic.{⊎-elim, if-pos}
 use Prim.Native.Nat.{ℕ, zero, suc, _+_, _≤_, _<_}
 use native.Mathlib.Nat.{eq-or-lt-of-le, le-of-suc-le-suc}
 use native.Mathlib.Decide.{ℕ-discrete}

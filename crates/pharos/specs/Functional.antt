@@ -1,11 +1,11 @@
 -- What a receive gets, and what a step leaves, is settled by the state before it and the time.
-use mathlib.Core.Path.{_≡_, refl, ap, ap₂, sym, _∙_}
-use mathlib.Core.Option.{Option, none, some}
+use mathlib.Core.Path.{_≡_, refl, ap, ap₂, sym, _∙_, fun-ext}
+use mathlib.Core.Option.{Option}
 use mathlib.Core.Logic.{_⊎_, inl, inr, ⊎-elim, by-cases, if-pos}
-use Prim.Native.Nat.{ℕ, _≤_, _<_}
+use Prim.Native.Nat.{ℕ, _<_}
 use native.Mathlib.Decide.{decLt, ℕ-discrete}
 use native.Mathlib.Omega.{arith}
-use Rattle.pharos.specs.Published.{Instruction, local, send, receive, Messages, Dated, Types, instrOf, except, SystemState, CanReceive, Before, later, lower, higher, Received, nothing, found, execIns, exec, executes}
+use Rattle.pharos.specs.Published.{Instruction, local, send, receive, Messages, Dated, Types, instrOf, except, SystemState, CanReceive, Before, later, lower, higher, Received, nothing, found, execIns, exec, executes, Init}
 
 less-or-more : {C : Type 0} (m n : ℕ) → (m < n → C) → (n < m → C) → (m ≡ n → C) → C
 less-or-more m n less more same = by-cases (decLt m n) less (λ p. by-cases (decLt n m) more (λ q. same (omega arith)))
@@ -24,6 +24,12 @@ module _ (T : Types) where
       go (send msg value upd) = refl
       go (receive msg bupd) = refl
 
+  -- The system state that agent a leaves at time t, if it gets `got`.
+  abbrev pub left : SystemState T → ℕ → Option ℕ → ℕ → SystemState T
+  left g a got t =
+      let after : Types.State T × Messages = exec T a (g .st a) (g .msgs) got in
+      record { st = except (g .st) a (after .0); msgs = after .1; t = t }
+
 module _ {T : Types} where
   open Types T using (State, instrAt)
 
@@ -31,8 +37,8 @@ module _ {T : Types} where
   pub before-total : (b i c j : ℕ) → Before T b i c j ⊎ Before T c j b i ⊎ ((b ≡ c) × (i ≡ j))
   before-total b i c j =
       less-or-more (instrAt b i .late) (instrAt c j .late) (λ l. inr (inl (later l))) (λ l. inl (later l))
-      (λ e. less-or-more b c (λ l. inl (lower (sym e) l)) (λ l. inr (inl (lower e l)))
-      (λ same. less-or-more i j (λ l. inr (inl (higher e (sym same) l))) (λ l. inl (higher (sym e) same l))
+      (λ e. less-or-more b c (λ l. inl (lower (sym e) (omega arith))) (λ l. inr (inl (lower e (omega arith))))
+      (λ same. less-or-more i j (λ l. inr (inl (higher e (sym same) (omega arith)))) (λ l. inl (higher (sym e) same (omega arith)))
       (λ p. inr (inr (same, p)))))
 
   pub received-once : {msgs : Messages} {di : Dated State} {o p : Option ℕ} → Received T msgs di o → Received T msgs di p → o ≡ p
@@ -47,6 +53,10 @@ module _ {T : Types} where
   -- Two system states are the same if their parts are.
   pub same-system : {g h : SystemState T} → g .st ≡ h .st → g .msgs ≡ h .msgs → g .t ≡ h .t → g ≡ h
   same-system {g} {h} p q r = λ k. record { st = p k; msgs = q k; t = r k }
+
+  -- There is one start.
+  pub init-once : {s s′ : SystemState T} → Init T s → Init T s′ → s ≡ s′
+  init-once i i′ = same-system (i .st ∙ sym (i′ .st)) (fun-ext λ b. fun-ext λ k. i .msgs b k ∙ sym (i′ .msgs b k)) (i .t ∙ sym (i′ .t))
 
   -- The same agent's step at the same time leaves the same.
   pub executes-once : {a : ℕ} {pre post post′ : SystemState T} → executes T a pre post → executes T a pre post′ → post .t ≡ post′ .t → post ≡ post′

@@ -1,22 +1,22 @@
 -- Every published system that meets the assumptions is an instance of the abstract model, and its steps are the abstract steps.
-use mathlib.Core.Path.{_≡_, refl, ap, sym, subst, _∙_, fun-ext}
+use mathlib.Core.Path.{_≡_, refl, ap, sym, _∙_, fun-ext}
 use mathlib.Core.Bool.{Bool, true, false, cond, true≢false}
 use mathlib.Core.Option.{Option, none, some}
 use mathlib.Core.Logic.{ite}
-use Prim.Native.Nat.{ℕ, _≤_, _<_}
+use Prim.Native.Nat.{ℕ, _≤_}
 use native.Mathlib.Decide.{ℕ-discrete}
 use native.Mathlib.Omega.{arith}
-use Rattle.pharos.specs.Published.{Instruction, local, send, receive, Messages, except, Types, instrOf, SystemState, GoodNextTime, CanReceive, Received, execIns, exec, executes, Assumptions}
-use Rattle.pharos.specs.Functional.{received-once, received-alike, exec-state, same-system}
+use Rattle.pharos.specs.Published.{Instruction, local, send, receive, Messages, except, Types, instrOf, SystemState, CanReceive, Received, execIns, exec, executes, Assumptions}
+use Rattle.pharos.specs.Functional.{received-once, received-alike, exec-state, same-system, left}
 use Rattle.pharos.specs.Search.{receives}
 use Rattle.pharos.specs.Model.{Model, Agent, System, Good, step, stepped}
 
+-- What an agent has sent, by row.
+abbrev pub Sent : Type 0
+Sent = ℕ → Option ℕ
+
 module _ (T : Types) where
   open Types T using (State, agents, ended, place, instrAt, visible)
-
-  -- What an agent has sent, by row.
-  abbrev pub Sent : Type 0
-  Sent = ℕ → Option ℕ
 
   -- What agent a sees, at s, of that which agent b has sent: the messages that are visible to its instruction.
   abbrev pub sight : ℕ → State → ℕ → Sent → Sent
@@ -100,8 +100,8 @@ module _ (T : Types) (ok : Assumptions T) where
   abbrev pub model : Model
   model = record {
     State = State;
-    Slice = Sent T;
-    View = Sent T;
+    Slice = Sent;
+    View = Sent;
     agents = agents;
     ended = ended;
     early = λ a s. instrOf T a s .early;
@@ -123,9 +123,7 @@ module _ (T : Types) (ok : Assumptions T) where
 
   -- The system state after agent a's step.
   abbrev moved : SystemState T → ℕ → ℕ → SystemState T
-  moved g a t =
-      let after : State × Messages = exec T a (g .st a) (g .msgs) (picked T a (g .st a) (g .msgs)) in
-      record { st = except (g .st) a (after .0); msgs = after .1; t = t }
+  moved g a t = left T g a (picked T a (g .st a) (g .msgs)) t
 
   moved-is-step : (g : SystemState T) (a t : ℕ) → system (moved g a t) ≡ step (system g) a t
   moved-is-step g a t =

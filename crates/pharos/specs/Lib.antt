@@ -12,4 +12,9 @@ pub mod Coded
 -- The published model is an instance of the abstract one.
 pub mod Instance
 pub mod Behaviours
+pub mod GoodStates
+pub mod Filter
 pub mod Decoded
+-- What weaker rules would allow.
+pub mod Counterexamples
+pub mod Backwards

@@ -96,7 +96,7 @@ module _ {M : Model} where
       (λ mine live. omega (arith, past-run T r all b real (mine .live), forward b (h .agent b .state) real (mine .live) (slices h) live))
       (past-run T r all b real)
 
-  -- T-07. Once agent `a` may step, no agent comes to a window that closes before that of `a` opens.
+  -- Once agent `a` may step, no agent comes to a window that closes before that of `a` opens.
   pub none-to-come : {g h : System M} {a t : ℕ} → Good g a t → Run g h
       → (b : ℕ) → b < agents → Live b (h .agent b) → early a (g .agent a .state) ≤ late b (h .agent b .state)
   none-to-come {g} {a = a} {t} ok r b real live =

@@ -79,6 +79,10 @@ module _ (T : Types) where
     pub begun : instrOf a (s .st a) .early ≤ t
     pub fits : (b : ℕ) → b < agents → ended b (s .st b) ≡ false → t ≤ instrOf b (s .st b) .late
 
+  -- GoodSystemState. 01: the agent is one that there is and has not ended.
+  abbrev pub GoodSystemState : SystemState → Type 0
+  GoodSystemState s = (a : ℕ) × (t : ℕ) × (a < agents) × (ended a (s .st a) ≡ false) × GoodNextTime s a t
+
   -- What msgReceived(msgs, di) asks of its i: here, that the message of row i of agent b, with the value v, is in the pool, has the number and is visible.
   pub record CanReceive (msgs : Messages) (di : Dated State) (b i v : ℕ) : Type 0 where
     pub agent : b < agents
@@ -122,7 +126,7 @@ module _ (T : Types) where
 
   -- The ASSUMEs instrOf_type, Update_monotonic and visible_cond.
   -- 01: the first two only of agents that there are and states that have not ended; of Update_monotonic only the late half, as the other is not used.
-  -- goodInitState follows from these, and TimeProgress has no place where tables are finite.
+  -- goodInitState follows from these (GoodStates), and TimeProgress has no place where tables are finite.
   pub record Assumptions : Type 0 where
     pub instrOf-type : (a : ℕ) (s : State) → a < agents → ended a s ≡ false → instrOf a s .early < instrOf a s .late
     pub Update-monotonic : (a : ℕ) (s : State) → a < agents → ended a s ≡ false → (msgs : Messages) (got : Option ℕ)
@@ -145,7 +149,7 @@ module _ (T : Types) where
     append : {h f : SystemState} {a : ℕ} → Behaviour g h → executes a h f → Behaviour g f
 
   -- filter(history, b): the states that agent b passes through, the oldest first.
-  -- 01: that at the start and that after each of its own steps. These differ, as each step raises the position, so there is nothing to unstutter.
+  -- 01: that at the start and that after each of its own steps. Each step raises the position, so unstutter takes out just the steps of others (Filter).
   abbrev pub filter : {g h : SystemState} → Behaviour g h → ℕ → List State
   filter {g} first b = g .st b ∷ []
   filter (append {f = f} {a} r step) b = ite (ℕ-discrete a b) (filter r b ++ (f .st b ∷ [])) (filter r b)
