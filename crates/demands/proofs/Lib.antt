@@ -1,0 +1,11 @@
+pub mod Rows
+pub mod Assumed
+pub mod Decode
+pub mod Received
+pub mod Step
+pub mod Reasons
+pub mod Demand2
+pub mod Behaves
+pub mod Call
+pub mod Demand3
+pub mod Lent

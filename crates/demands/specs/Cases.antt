@@ -1,0 +1,45 @@
+-- 01's first example, computed: the states that its two agents pass through, whole, cut short by a refusal, and in a list of an odd number of words.
+use mathlib.Core.Path.{_≡_, refl}
+use mathlib.Core.List.{List, [], _∷_, _++_}
+use Prim.Native.Nat.{ℕ}
+use lib.ListN.{replicate}
+use Rattle.tables.specs.Basics.{first, every, allBelow, allZero, zeroFrom}
+use Rattle.tables.specs.Layout.{rowOf}
+use Rattle.tables.specs.Rows.{rowReply, wellFormed, fieldsFit, namesOf, within}
+use Rattle.tables.specs.Table.{goodTable, goodAgent, goodRows, rowReplyAt, earlyBefore, lateBefore}
+use Rattle.executive.specs.declared.Agent.{Agent}
+use Rattle.executive.specs.State.{startWords}
+use Rattle.executive.specs.Messages.{best, lookAgents, lookRows, look, visible, beats}
+use Rattle.executive.specs.Effect.{after, receive}
+use Rattle.executive.specs.Fit.{inTime, unfinished}
+use Rattle.executive.specs.Step.{choiceReply, stuck, canGo, accepted, withAgent, withSent}
+use Rattle.executive.specs.Run.{runFrom}
+use Rattle.executive.specs.Calls.{runInto, runRefusal}
+use Rattle.demands.specs.Runs.{comesTo, passed}
+
+-- SEND 0, 7 in the window 1 to 3 with 5 in register 0; RECV 1, 7 in the window 4 to 8
+table : List ℕ
+table =
+    (2 ∷ 1 ∷ 1 ∷ replicate 14 0) ++ (5 ∷ replicate 63 0)
+    ++ (0x20000000 ∷ 7 ∷ 1 ∷ 3 ∷ replicate 124 0)
+    ++ (0x30010000 ∷ 7 ∷ 4 ∷ 8 ∷ replicate 1916 0)
+
+abbrev at : (p : ℕ) → List ℕ → Agent
+at p r = record { pos = p; regs = r }
+
+abbrev sender : ℕ → Agent
+sender p = at p (5 ∷ 0 ∷ 0 ∷ 0 ∷ [])
+
+-- what an agent passes through in a run of the table, made in lent words that are all 9
+through : List ℕ → ℕ → List Agent
+through cs b = passed (runInto table (replicate 1106 9)) cs b
+
+record Example : Type 0 where
+  sends : through (0 ∷ 3 ∷ 1 ∷ 4 ∷ []) 0 ≡ sender 0 ∷ sender 1 ∷ []
+  receives : through (0 ∷ 3 ∷ 1 ∷ 4 ∷ []) 1 ≡ at 0 (0 ∷ 0 ∷ 0 ∷ 0 ∷ []) ∷ at 1 (0 ∷ 5 ∷ 0 ∷ 0 ∷ []) ∷ []
+  cut : through (0 ∷ 3 ∷ 0 ∷ 3 ∷ 1 ∷ 4 ∷ []) 1 ≡ at 0 (0 ∷ 0 ∷ 0 ∷ 0 ∷ []) ∷ []
+  odd : through (0 ∷ 3 ∷ 1 ∷ []) 0 ≡ sender 0 ∷ []
+
+example : Example
+unfolding table through comesTo first every runInto runRefusal runFrom startWords choiceReply stuck canGo inTime unfinished accepted withAgent withSent after receive best lookAgents lookRows look visible beats goodTable goodAgent goodRows rowReplyAt rowReply wellFormed fieldsFit namesOf within earlyBefore lateBefore rowOf zeroFrom allZero allBelow
+example = record { sends = refl; receives = refl; cut = refl; odd = refl }

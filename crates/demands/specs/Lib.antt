@@ -1,0 +1,7 @@
+-- What a reader of this crate must believe, lowest first.
+pub mod Reasons
+pub mod Instance
+pub mod Demand2
+pub mod Runs
+pub mod Cases
+pub mod Demand3
