@@ -1,3 +1,4 @@
 pub mod Tests
 pub mod Zeros
 pub mod Lines
+pub mod Heads
