@@ -136,11 +136,11 @@ module _ (text : List ℕ) (p : ℕ) where
         field-from text p (p + 2) 2 2 refl,
       )
 
-  no-frames : length text ≤ p → framesOf (drop p text) ≡ []
+  pub no-frames : length text ≤ p → framesOf (drop p text) ≡ []
   unfolding framesOf lines
   no-frames h = rw (drop-of-length-le text {i = p} h)
 
-  some-frames : p < length text → framesOf (drop p text) ≡ [] → ⊥
+  pub some-frames : p < length text → framesOf (drop p text) ≡ [] → ⊥
   unfolding framesOf joined
   some-frames h e =
       let z : drop p text ≡ [] = sym (joined-lines (drop p text)) ∙ ap joined (none (lines (drop p text)) e) in
