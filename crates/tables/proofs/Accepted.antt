@@ -1,15 +1,18 @@
--- Frames that are in their places: the bounds that hold at each of them, and what a row's turn does. Assumes nothing.
-use mathlib.Core.Path.{_≡_, refl, sym, ap, _∙_}
+-- Frames that are in their places: the bounds that hold at each of them. Assumes nothing.
+use mathlib.Core.Path.{_≡_, refl, sym, ap, subst, _∙_}
 use mathlib.Core.Bool.{Bool, true, false, _&&_, _||_}
 use mathlib.Core.List.{List, [], _∷_}
 use Prim.Native.Nat.{ℕ, zero, suc, _+_, _*_, _≤_, _<_}
 use native.Mathlib.Omega.{arith}
 use lib.Dec.{ltb, eqb}
 use borrow.Author.Tests.{eqb-true}
-use Rattle.tables.specs.Frames.{Frame, opens, gives, ends, malformed}
-use Rattle.tables.specs.Reader.{told, inPlace, rowsNext, rowIn, rowsGood}
-use Rattle.tables.specs.Rows.{rowReply}
+use lib.ListN.{length, drop}
+use Rattle.tables.specs.Frames.{Frame, opens, gives, ends, malformed, framesOf}
+use Rattle.tables.specs.Heads.{lineAt, wordsAt}
+use Rattle.tables.specs.Reader.{told, inPlace, rowsNext}
 use Rattle.tables.specs.declared.Told.{Told}
+use Rattle.tables.specs.declared.frames.Line.the-variants.{Opens, Gives}
+use Rattle.tables.proofs.Heads.{Framed, framed}
 use Rattle.tables.proofs.Passed.{and-1}
 use Rattle.tables.proofs.Places.{mayOpen, mayGive, open-room, give-room, place-open, place-open-not, place-give, place-give-not}
 
@@ -39,10 +42,10 @@ module _ (n a i b : ℕ) (ws : List ℕ) (fs : List Frame) where
       go false e = let z = ap (λ (t : Told). t .reply) (sym (place-give-not n a i b ws fs e)) ∙ q .placed in absurd (omega arith)
 
   -- a further agent: there is room for it
-  pub open-agent : Placed n a i (opens b ws ∷ fs) → a < 16
+  open-agent : Placed n a i (opens b ws ∷ fs) → a < 16
   open-agent q = open-room b a i (open-may q)
 
-  pub open-on : Placed n a i (opens b ws ∷ fs) → Placed (n + 1) (a + 1) 0 fs
+  open-on : Placed n a i (opens b ws ∷ fs) → Placed (n + 1) (a + 1) 0 fs
   open-on q =
       let r = open-agent q in
       let l = q .line in
@@ -55,13 +58,13 @@ module _ (n a i b : ℕ) (ws : List ℕ) (fs : List Frame) where
       }
 
   -- a further row of the open agent: there is room for it
-  pub give-row : Placed n a i (gives b ws ∷ fs) → i < 32
+  give-row : Placed n a i (gives b ws ∷ fs) → i < 32
   give-row q = give-room b a i (give-may q)
 
-  pub give-agent : Placed n a i (gives b ws ∷ fs) → b + 1 ≡ a
+  give-agent : Placed n a i (gives b ws ∷ fs) → b + 1 ≡ a
   give-agent q = eqb-true (b + 1) a (and-1 (eqb (b + 1) a) (ltb i 32) (give-may q))
 
-  pub give-on : Placed n a i (gives b ws ∷ fs) → Placed (n + 1) a (i + 1) fs
+  give-on : Placed n a i (gives b ws ∷ fs) → Placed (n + 1) a (i + 1) fs
   give-on q =
       let r = give-row q in
       let l = q .line in
@@ -91,18 +94,31 @@ rows-none (gives b ws ∷ fs) n i q = let e = give-agent n 0 i b ws fs q in absu
 rows-none (ends ∷ fs) n i q = refl
 rows-none (malformed ∷ fs) n i q = refl
 
--- ---- replies 4 to 7
+-- ---- the same at place p of a text
 
-module _ (n c i e l b : ℕ) (ws : List ℕ) (fs : List Frame) where
-  pub good-open : rowsGood n c i e l (opens b ws ∷ fs) ≡ rowsGood (n + 1) (rowsNext fs) 0 0 0 fs
-  unfolding rowsGood
-  good-open = refl
+module _ (text : List ℕ) (p : ℕ) {n a i : ℕ} (within : p ≤ length text) (q : Placed n a i (framesOf (drop p text))) where
+  with-head : (f : Frame) → Framed text p f → Placed n a i (f ∷ framesOf (drop (p + 37) text))
+  with-head f l = subst (λ (fs : List Frame). Placed n a i fs) (l .frames) q
 
-  pub good-row : rowReply (rowIn ws) i c e l ≡ 0 → rowsGood n c i e l (gives b ws ∷ fs) ≡ rowsGood (n + 1) c (i + 1) (rowIn ws .early) (rowIn ws .late) fs
-  unfolding rowsGood
-  good-row h = rw (h, rowsGood)
+  module _ {b : ℕ} (o : lineAt text p ≡ Opens b) where
+    opened : Placed n a i (opens b (wordsAt text p) ∷ framesOf (drop (p + 37) text))
+    opened = with-head (opens b (wordsAt text p)) (framed text p within (Opens b) o refl)
 
-  pub bad-row : (r : ℕ) → rowReply (rowIn ws) i c e l ≡ r → (r ≡ 0 → ⊥) → rowsGood n c i e l (gives b ws ∷ fs) ≡ told r n
-  unfolding rowsGood
-  bad-row zero h k = absurd (k refl)
-  bad-row (suc r) h k = rw (h, rowsGood)
+    pub agent-below : a < 16
+    agent-below = open-agent n a i b (wordsAt text p) (framesOf (drop (p + 37) text)) opened
+
+    pub after-open : Placed (n + 1) (a + 1) 0 (framesOf (drop (p + 37) text))
+    after-open = open-on n a i b (wordsAt text p) (framesOf (drop (p + 37) text)) opened
+
+  module _ {b : ℕ} (g : lineAt text p ≡ Gives b) where
+    given : Placed n a i (gives b (wordsAt text p) ∷ framesOf (drop (p + 37) text))
+    given = with-head (gives b (wordsAt text p)) (framed text p within (Gives b) g refl)
+
+    pub row-below : i < 32
+    row-below = give-row n a i b (wordsAt text p) (framesOf (drop (p + 37) text)) given
+
+    pub agent-open : 1 ≤ a
+    agent-open = let e = give-agent n a i b (wordsAt text p) (framesOf (drop (p + 37) text)) given in omega arith
+
+    pub after-give : Placed (n + 1) a (i + 1) (framesOf (drop (p + 37) text))
+    after-give = give-on n a i b (wordsAt text p) (framesOf (drop (p + 37) text)) given

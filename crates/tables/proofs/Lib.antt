@@ -8,3 +8,6 @@ pub mod Places
 pub mod Families
 pub mod Accepted
 pub mod RowsRead
+pub mod Loads
+pub mod Arms
+pub mod Outcomes

@@ -14,7 +14,7 @@ use Rattle.tables.specs.declared.frames.Line.{Line}
 use Rattle.tables.specs.declared.frames.Line.the-variants.{Opens, Gives, Ends, Malformed}
 use Rattle.tables.proofs.Heads.{Framed, framed, full, no-frames}
 use Rattle.tables.proofs.Places.{row-next}
-use Rattle.tables.proofs.Accepted.{Placed, placed-first, open-on, give-on, rows-fit, rows-none, good-open, good-row, bad-row}
+use Rattle.tables.proofs.Accepted.{Placed, placed-first, after-open, after-give, rows-fit, rows-none}
 
 -- before the line at place p: line n is next, in an agent of c rows of which i were taken, the last with the window from e to l
 pub record Turn (text : List ℕ) (p n c i e l : ℕ) : Type 0 where
@@ -30,6 +30,21 @@ first-turn text h =
     let z = rows-none (framesOf text) 1 0 q in
     record { within = omega arith; agent = 0; placed = q; count = omega arith; told = refl }
 
+-- what one frame does
+module _ (n c i e l b : ℕ) (ws : List ℕ) (fs : List Frame) where
+  good-open : rowsGood n c i e l (opens b ws ∷ fs) ≡ rowsGood (n + 1) (rowsNext fs) 0 0 0 fs
+  unfolding rowsGood
+  good-open = refl
+
+  good-row : rowReply (rowIn ws) i c e l ≡ 0 → rowsGood n c i e l (gives b ws ∷ fs) ≡ rowsGood (n + 1) c (i + 1) (rowIn ws .early) (rowIn ws .late) fs
+  unfolding rowsGood
+  good-row h = rw (h, rowsGood)
+
+  bad-row : (r : ℕ) → rowReply (rowIn ws) i c e l ≡ r → (r ≡ 0 → ⊥) → rowsGood n c i e l (gives b ws ∷ fs) ≡ told r n
+  unfolding rowsGood
+  bad-row zero h k = absurd (k refl)
+  bad-row (suc r) h k = rw (h, rowsGood)
+
 module _ {text : List ℕ} {p n c i e l : ℕ} (t : Turn text p n c i e l) where
   pub few-lines : n ≤ 561
   few-lines = let q = t .placed .line in let a = t .placed .agents in let r = t .placed .rows in omega arith
@@ -38,23 +53,21 @@ module _ {text : List ℕ} {p n c i e l : ℕ} (t : Turn text p n c i e l) where
     opens-line : Framed text p (opens b (wordsAt text p))
     opens-line = framed text p (t .within) (Opens b) o refl
 
-    after-open : Placed (n + 1) (t .agent + 1) 0 (framesOf (drop (p + 37) text))
-    after-open =
-        open-on n (t .agent) i b (wordsAt text p) (framesOf (drop (p + 37) text))
-        (subst (λ (fs : List Frame). Placed n (t .agent) i fs) (opens-line .frames) (t .placed))
-
     pub open-room : p + 37 ≤ length text
     open-room = opens-line .room
 
     pub open-rows : rowsNext (framesOf (drop (p + 37) text)) ≤ 32
-    open-rows = let r = rows-fit (framesOf (drop (p + 37) text)) (n + 1) (t .agent + 1) 0 after-open in omega arith
+    open-rows =
+        let q = after-open text p (t .within) (t .placed) o in
+        let r = rows-fit (framesOf (drop (p + 37) text)) (n + 1) (t .agent + 1) 0 q in
+        omega arith
 
     pub open-turn : Turn text (p + 37) (n + 1) (rowsNext (framesOf (drop (p + 37) text))) 0 0 0
     open-turn =
         record {
           within = open-room;
           agent = t .agent + 1;
-          placed = after-open;
+          placed = after-open text p (t .within) (t .placed) o;
           count = omega arith;
           told =
               t .told ∙ ap (rowsGood n c i e l) (opens-line .frames)
@@ -80,9 +93,7 @@ module _ {text : List ℕ} {p n c i e l : ℕ} (t : Turn text p n c i e l) where
         record {
           within = gives-line .room;
           agent = t .agent;
-          placed =
-              give-on n (t .agent) i b (wordsAt text p) (framesOf (drop (p + 37) text))
-              (subst (λ (fs : List Frame). Placed n (t .agent) i fs) (gives-line .frames) (t .placed));
+          placed = after-give text p (t .within) (t .placed) g;
           count = omega arith;
           told =
               t .told ∙ ap (rowsGood n c i e l) (gives-line .frames)

@@ -4,7 +4,10 @@ use crate::Told;
 use crate::frames::Line;
 use crate::frames::line_at;
 use crate::frames::word;
+use crate::loading::load;
+use crate::placing::in_place;
 use crate::replies::ACCEPTED;
+use crate::replies::TOO_SHORT;
 use crate::rows::row_of;
 use crate::rows::row_reply;
 ghost use mathlib.Core.Path.{_≡_};
@@ -14,6 +17,7 @@ ghost use lib.ListN.{length, drop};
 ghost use Rattle.tables.specs.Frames.{framesOf};
 ghost use Rattle.tables.specs.Heads.{digitsAt, wordsAt};
 ghost use Rattle.tables.specs.Reader.{inPlace, rowsNext, rowIn, rowsGood};
+ghost use Rattle.tables.specs.Calls.{Read};
 
 // The rows that come before the next agent or the end.
 fn rows_next(text: &[u8], at: usize) -> u32
@@ -96,4 +100,26 @@ fn rows_good(text: &[u8]) -> Told
         reply: ACCEPTED,
         line: 0,
     }
+}
+
+// Reads a table's text into the lent words: the reply, with its line. The words are written only once every row is accepted.
+pub fn read(text: &[u8], table: &mut [u32]) -> Told
+    ensures { λ r. ⌜ Read (now (text .entry)) (now (table .entry)) r (now (table .exit)) ⌝ }
+{
+    if table.len() < 2129 {
+        return Told {
+            reply: TOO_SHORT,
+            line: 0,
+        };
+    }
+    let placed = in_place(text);
+    if placed.reply != ACCEPTED {
+        return placed;
+    }
+    let good = rows_good(text);
+    if good.reply != ACCEPTED {
+        return good;
+    }
+    load(text, &mut table[..2129]);
+    good
 }

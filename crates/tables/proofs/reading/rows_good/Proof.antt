@@ -1,20 +1,15 @@
 -- The invariant is `Turn`: the lines from p on are in their places, and reply as the whole text does. Assumes nothing.
 use mathlib.Core.Path.{_≡_, refl, sym, ap, subst, _∙_}
-use mathlib.Core.Bool.{false}
-use mathlib.Core.List.{[], _∷_}
 use Prim.Native.Nat.{ℕ, _+_, _-_, _≤_}
 use native.Mathlib.Omega.{arith}
 use lib.ListN.{length}
 use borrow.Author.Needs.{needs}
-use types.Run.{OneOf, miss}
-use denote.Enum.Declared.{tagOf}
 use Rattle.tables.specs.Heads.{lineAt, wordsAt}
 use Rattle.tables.specs.Rows.{rowReply}
 use Rattle.tables.specs.Reader.{rowIn}
 use Rattle.tables.specs.declared.Row.{Row}
-use Rattle.tables.specs.declared.frames.Line.{Line}
-use Rattle.tables.specs.declared.frames.Line.the-variants.{Opens, Gives, Ends, Malformed}
-use Rattle.tables.proofs.frames.Line.{the-type}
+use Rattle.tables.specs.declared.frames.Line.the-variants.{Opens, Gives}
+use Rattle.tables.proofs.Arms.{no-frame}
 use Rattle.tables.proofs.Heads.{full}
 use Rattle.tables.proofs.RowsRead.{Turn, first-turn, few-lines, open-room, open-rows, open-turn, gives-line, row-below, row-turn, row-refused, no-line, no-text}
 use Rattle.tables.proofs.reading.rows_good.Statement.{statement}
@@ -88,9 +83,7 @@ reply-is : (c : tie.After-row-reply Inv-loop μ-loop)
     → let l = c .before .before .before .before .before .before .loop in
     let s = c .before .before .before .before .before .before .before .before .args .text .now in
     rowReply (rowIn (wordsAt s (l .p))) (l .i) (l .c) (l .early) (l .late) ≡ c .row-reply .result
-reply-is c =
-    let l = c .before .before .before .before .before .before .loop in
-    sym (c .row-reply .ensures ∙ ap (λ (r : Row). rowReply r (l .i) (l .c) (l .early) (l .late)) (c .before .row-in .ensures))
+reply-is c = rw (← c .before .row-in .ensures) (sym (c .row-reply .ensures))
 
 returns : tie.Need-returns Inv-loop μ-loop
 returns c =
@@ -127,16 +120,10 @@ loop-again-2 c =
 
 -- ---- the end
 
-other : (ln : Line) → OneOf (2 ∷ 3 ∷ []) (tagOf the-type ln) → full ln ≡ false
-other (Opens b) k = absurd (miss (2 ∷ 3 ∷ []) 0 tt k)
-other (Gives b) k = absurd (miss (2 ∷ 3 ∷ []) 1 tt k)
-other Ends k = refl
-other Malformed k = refl
-
 returns-2 : tie.Need-returns-2 Inv-loop μ-loop
 returns-2 c =
     let q = c .before .line-at in
-    sym (no-line (c .before .before .before .loop .inv) (ap full (sym (q .ensures)) ∙ other (q .result) (c .match .keys3)))
+    sym (no-line (c .before .before .before .loop .inv) (ap full (sym (q .ensures)) ∙ no-frame (q .result) (c .match .keys3)))
 
 returns-3 : tie.Need-returns-3 Inv-loop μ-loop
 returns-3 c = sym (no-text (c .before .loop .inv) (c .loop-test .left))
