@@ -2,12 +2,14 @@ pub mod Tests
 pub mod Passed
 pub mod RowReplies
 pub mod Zeros
+pub mod Families
+pub mod Loops
+pub mod Good
 pub mod Lines
 pub mod Heads
 pub mod Places
-pub mod Families
+pub mod Arms
 pub mod Accepted
 pub mod RowsRead
 pub mod Loads
-pub mod Arms
 pub mod Outcomes

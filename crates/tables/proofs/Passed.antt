@@ -6,7 +6,7 @@ use Prim.Native.Nat.{ℕ, zero, suc, _<_}
 use native.Mathlib.Omega.{arith}
 use native.Mathlib.Nat.{not-suc-le-zero}
 use lib.Dec.{T, eqb, ltb, ltb→lt}
-use lib.ListN.{getD, length}
+use lib.ListN.{getD}
 use borrow.Author.Tests.{eqb-true, eqb-false, lt-ltb, le-ltb, le-leb, lt-leb, eq-eqb, ne-eqb}
 use Rattle.tables.proofs.Tests.{and-both, not-t, not-f}
 use Rattle.tables.specs.Basics.{every, allBelow, first, _⇒_, Rule}
@@ -43,6 +43,11 @@ every-stop b bs h = rw h
 pub every-go : (b q : Bool) (bs : List Bool) → b ≡ true → q ≡ every bs → q ≡ every (b ∷ bs)
 unfolding every
 every-go b q bs h e = rw h e
+
+pub every-of : (bs : List Bool) → ((k : ℕ) → getD bs k true ≡ true) → every bs ≡ true
+unfolding every
+every-of [] h = refl
+every-of (b ∷ bs) h = and-both b (every bs) (h 0) (every-of bs (λ k. h (suc k)))
 
 -- ---- every number below n
 
