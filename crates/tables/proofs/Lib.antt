@@ -5,3 +5,11 @@ pub mod Zeros
 pub mod Families
 pub mod Loops
 pub mod Good
+pub mod Lines
+pub mod Heads
+pub mod Places
+pub mod Arms
+pub mod Accepted
+pub mod RowsRead
+pub mod Loads
+pub mod Outcomes
