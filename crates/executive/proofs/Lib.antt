@@ -7,3 +7,4 @@ pub mod Start
 pub mod Fits
 pub mod Effects
 pub mod Deadline
+pub mod Around
