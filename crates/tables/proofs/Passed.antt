@@ -7,8 +7,8 @@ use native.Mathlib.Omega.{arith}
 use native.Mathlib.Nat.{not-suc-le-zero}
 use lib.Dec.{T, eqb, ltb, ltb→lt}
 use lib.ListN.{getD, length}
-use borrow.Author.Tests.{eqb-true, eqb-false}
-use Rattle.tables.proofs.Tests.{and-both}
+use borrow.Author.Tests.{eqb-true, eqb-false, lt-ltb, le-ltb, le-leb, lt-leb, eq-eqb, ne-eqb}
+use Rattle.tables.proofs.Tests.{and-both, not-t, not-f}
 use Rattle.tables.specs.Basics.{every, allBelow, first, _⇒_, Rule}
 
 pub and-1 : (a b : Bool) → (a && b) ≡ true → a ≡ true
@@ -44,6 +44,11 @@ pub every-go : (b q : Bool) (bs : List Bool) → b ≡ true → q ≡ every bs �
 unfolding every
 every-go b q bs h e = rw h e
 
+pub every-of : (bs : List Bool) → ((k : ℕ) → getD bs k true ≡ true) → every bs ≡ true
+unfolding every
+every-of [] h = refl
+every-of (b ∷ bs) h = and-both b (every bs) (h 0) (every-of bs (λ k. h (suc k)))
+
 -- ---- every number below n
 
 pub below : (n : ℕ) (f : ℕ → Bool) → allBelow n f ≡ true → (i : ℕ) → i < n → f i ≡ true
@@ -69,6 +74,21 @@ not-all-below n f i l h = go (allBelow n f) refl
     go false e = refl
 
 -- ---- the first of several refusals
+
+pub first-hit : (b : Bool) (r : ℕ) (rs : List Rule) → b ≡ true → r ≡ first ((b ⇒ r) ∷ rs)
+unfolding first
+first-hit b r rs h = rw h
+
+pub first-skip : (b : Bool) (r q : ℕ) (rs : List Rule) → b ≡ false → q ≡ first rs → q ≡ first ((b ⇒ r) ∷ rs)
+unfolding first
+first-skip b r q rs h e = rw h e
+
+pub first-none : 0 ≡ first []
+unfolding first
+first-none = refl
+
+-- what a reply by the first refusal is shown from: the facts of the branches on the way
+pub ruleset refusals = (first-none, first-hit, first-skip, not-t, not-f, lt-ltb, le-ltb, le-leb, lt-leb, eq-eqb, ne-eqb)
 
 -- the tests of rules, and that no rule has the number 0
 abbrev pub testAt : List Rule → ℕ → Bool

@@ -20,15 +20,15 @@ names o x y n k = record { known = o; x = x; y = y; n = n; k = k }
 -- 01's table of rows, its first two columns
 unfoldable pub namesOf : ℕ → Names
 namesOf op =
-    cond (eqb op 0x00) (names true true false false true) -- SET x, k
-    (cond (eqb op 0x01) (names true true true false false) -- ADD x, y
-    (cond (eqb op 0x02) (names true true true false false) -- SUB x, y
-    (cond (eqb op 0x03) (names true true true false false) -- ONES x, y
-    (cond (eqb op 0x04) (names true true true false false) -- LOW x, y
-    (cond (eqb op 0x10) (names true true false true false) -- SKIP x, n
-    (cond (eqb op 0x11) (names true false false true false) -- JUMP n
-    (cond (eqb op 0x20) (names true true false false true) -- SEND x, k
-    (cond (eqb op 0x30) (names true true false true true) -- RECV x, k, n
+    cond (eqb op 0x00) (names true true false false true)  -- SET x, k
+    (cond (eqb op 0x01) (names true true true false false)  -- ADD x, y
+    (cond (eqb op 0x02) (names true true true false false)  -- SUB x, y
+    (cond (eqb op 0x03) (names true true true false false)  -- ONES x, y
+    (cond (eqb op 0x04) (names true true true false false)  -- LOW x, y
+    (cond (eqb op 0x10) (names true true false true false)  -- SKIP x, n
+    (cond (eqb op 0x11) (names true false false true false)  -- JUMP n
+    (cond (eqb op 0x20) (names true true false false true)  -- SEND x, k
+    (cond (eqb op 0x30) (names true true false true true)  -- RECV x, k, n
     (names false false false false false)))))))))
 
 -- a field is at most its limit where the row names it, and 0 where it does not

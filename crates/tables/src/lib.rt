@@ -3,6 +3,7 @@
 pub mod replies; // replies.rt: the numbers of the replies
 pub mod words; // words.rt: words that are 0
 pub mod rows; // rows.rt: a row of a table, its family, and replies 4 to 7
+pub mod checking; // checking.rt: the check of a table's words, reply 8
 
 // A row, taken apart.
 pub struct Row {

@@ -1,3 +1,4 @@
+-- `family_of` meets its contract: the match's ranges are the tests of `familyOf`. Assumes nothing.
 use borrow.Author.Needs.{needs}
 use Rattle.tables.specs.Family.{familyOf}
 use Rattle.tables.proofs.Tests.{firsts}
