@@ -1,17 +1,31 @@
 -- A choice is accepted exactly when 01 says so: its reply is 0 where these facts hold, and nowhere else. Assumes nothing.
 use mathlib.Core.Path.{_≡_, refl, sym, _∙_}
+use mathlib.Core.Logic.{_≢_}
 use mathlib.Core.Bool.{Bool, true, false, not, _&&_, _||_, false≢true}
-use mathlib.Core.List.{List}
+use mathlib.Core.List.{List, [], _∷_}
 use Prim.Native.Nat.{ℕ, max, _<_, _≤_}
 use native.Mathlib.Omega.{arith}
-use lib.Dec.{ltb, leb}
-use borrow.Author.Tests.{ltb-true, ltb-false, leb-true, leb-false, lt-ltb, le-ltb, le-leb, lt-leb, not-false, not-true}
-use Rattle.tables.specs.Basics.{first, allBelow}
+use lib.Dec.{ltb, leb, eqb}
+use borrow.Author.Tests.{ltb-true, ltb-false, leb-true, leb-false, lt-ltb, le-ltb, le-leb, lt-leb, eqb-false, eq-eqb, not-false, not-true}
+use Rattle.tables.specs.Basics.{first, _⇒_, Rule}
 use Rattle.tables.specs.Layout.{agents, rows}
-use Rattle.tables.proofs.Passed.{below, all-below, not-all-below, passed}
+use Rattle.tables.proofs.Tests.{and-both}
+use Rattle.tables.proofs.Passed.{and-1, and-2, below, all-below, not-all-below, passed}
 use Rattle.executive.specs.State.{clock, pos}
 use Rattle.executive.specs.Fit.{unfinished, current, inTime}
 use Rattle.executive.specs.Step.{choiceReply, stuck, canGo}
+
+-- no rule of the list whose test holds has the number n
+abbrev pub lacks : ℕ → List Rule → Bool
+lacks n [] = not (eqb 0 n)
+lacks n ((b ⇒ r) ∷ rs) = not (eqb r n && b) && lacks n rs
+
+pub lacking : (n : ℕ) (rs : List Rule) → lacks n rs ≡ true → first rs ≢ n
+unfolding first
+lacking n [] h e = eqb-false 0 n (not-true (eqb 0 n) h) e
+lacking n ((true ⇒ r) ∷ rs) h e =
+    false≢true (sym (not-true (eqb r n && true) (and-1 (not (eqb r n && true)) (lacks n rs) h)) ∙ and-both (eqb r n) true (eq-eqb r n e) refl)
+lacking n ((false ⇒ r) ∷ rs) h e = lacking n rs (and-2 (not (eqb r n && false)) (lacks n rs) h) e
 
 module _ (tb st : List ℕ) where
   -- the time is "not above the late of any unfinished agent's current row"
@@ -79,3 +93,12 @@ module _ (tb st : List ℕ) where
           not-stuck c,
           time-in t (c .late),
         )
+
+    -- the first two refusals, which make no use of the agent's row
+    pub reply-10 : agents tb ≤ a → choiceReply tb st a t ≡ 10
+    unfolding choiceReply first
+    reply-10 h = rw (le-leb (agents tb) a h)
+
+    pub reply-11 : a < agents tb → rows tb a ≤ pos st a → choiceReply tb st a t ≡ 11
+    unfolding choiceReply first
+    reply-11 h e = rw (lt-leb (agents tb) a h, le-leb (rows tb a) (pos st a) e)

@@ -25,7 +25,7 @@ module _ (tb : List ℕ) (good : goodTable tb ≡ true) (long : length tb ≡ 21
   start-pos : (b : ℕ) → b < 16 → pos (startWords tb) b ≡ 0
   start-pos b h = start-low tb long-enough (posPlace b) (omega arith) (omega arith)
 
-  start-is : Fits tb (startWords tb)
+  pub start-is : Fits tb (startWords tb)
   start-is =
       let few = few-agents tb good in
       let c = start-clock tb long-enough in
@@ -60,7 +60,7 @@ module _ (tb st : List ℕ) (good : goodTable tb ≡ true) (long : length st ≡
   clock-is = accepted-clock tb st a t long low
 
   -- the position of each agent after the step: a's is higher, every other's is the same
-  new-position : (b : ℕ) → b < agents tb → (pos st b ≤ pos new b) × (pos new b ≤ rows tb b)
+  pub new-position : (b : ℕ) → b < agents tb → (pos st b ≤ pos new b) × (pos new b ≤ rows tb b)
   new-position b h = go (ℕ-discrete b a)
     where
       go : Dec (b ≡ a) → (pos st b ≤ pos new b) × (pos new b ≤ rows tb b)

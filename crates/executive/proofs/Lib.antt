@@ -5,6 +5,12 @@ pub mod Choice
 pub mod Fitting
 pub mod Start
 pub mod Fits
+pub mod Runs
+pub mod OneByOne
+pub mod Taken
+pub mod Stuck
+pub mod Depends
+pub mod Bits
 pub mod Effects
 pub mod Deadline
 pub mod Around
