@@ -1,13 +1,14 @@
 -- The words of a state with others in the places of the registers: what is read there, and what is stored around them. Assumes nothing.
 use mathlib.Core.Path.{_≡_, refl, sym, ap, _∙_}
 use mathlib.Core.List.{List, [], _∷_, _++_}
-use Prim.Native.Nat.{ℕ, zero, suc, _+_, _-_, _≤_, _<_}
+use Prim.Native.Nat.{ℕ, zero, suc, _+_, _*_, _-_, _/_, _%_, _≤_, _<_}
+use native.Mathlib.Nat.{le-of-eq}
 use native.Mathlib.Decide.{decLt, ℕ-discrete}
 use native.Mathlib.Numerals.{add-one}
 use native.Mathlib.Omega.{arith}
 use lib.ListN.{length, take, drop, getD, set, length-append, length-take, length-drop, length-set, List·getD-append}
-use lib.Seq.{sets, length-sets, getD-take, getD-drop, getD-set-same, getD-set-other, ext-getD, drop-cons, set-at, append-snoc, getD-at}
-use Rattle.executive.specs.Registers.{around, listed}
+use lib.Seq.{sets, length-sets, getD-take, getD-drop, getD-set-same, getD-set-other, ext-getD, drop-cons, set-at, append-snoc, getD-at, paste, paste-suc, take-all}
+use Rattle.executive.specs.Registers.{around, listed, register, withRegs}
 use Rattle.executive.proofs.Lists.{getD-right, getD-part, getD-sets-other}
 
 -- ---- a list given by its elements
@@ -123,3 +124,46 @@ around-sets ws m vs p long fm lo hi =
     (λ j h. around-low (sets ws p vs) m (omega arith) fm j h ∙ getD-sets-other vs ws p j (λ i k d. omega arith))
     (λ j l h. around-mid (sets ws p vs) m (omega arith) fm j l h)
     (λ j l. around-high (sets ws p vs) m (omega arith) fm j l ∙ getD-sets-other vs ws p j (λ i k d. omega arith))
+
+-- ---- registers read from a state, and stored into it
+
+-- four words read one by one
+pub four-words : (s : List ℕ) (at : ℕ) → at + 4 ≤ length s
+    → getD s at 0 ∷ getD s (at + 1) 0 ∷ getD s (at + 2) 0 ∷ getD s (at + 3) 0 ∷ [] ≡ take 4 (drop at s)
+four-words s at h =
+    let e₁ : at + 1 ≡ suc at = omega arith in
+    let e₂ : at + 2 ≡ suc (suc at) = omega arith in
+    let e₃ : at + 3 ≡ suc (suc (suc at)) = omega arith in
+    rw (e₁, e₂, e₃, drop-cons s at 0 (omega arith), drop-cons s (suc at) 0 (omega arith), drop-cons s (suc (suc at)) 0 (omega arith), drop-cons s (suc (suc (suc at))) 0 (omega arith))
+
+-- the registers of agent a that stand in a state
+abbrev pub registersOf : List ℕ → ℕ → List ℕ
+registersOf st a = take 4 (drop (17 + 4 * a) st)
+
+-- those of all agents, put where they stand already
+pub loaded-own : (st : List ℕ) → 81 ≤ length st → withRegs st (listed (registersOf st) 16) ≡ st
+loaded-own st long = ap (around st) same ∙ around-own st long
+  where
+    same : listed (register (listed (registersOf st) 16)) 64 ≡ take 64 (drop 17 st)
+    same =
+        let g = listed (registersOf st) 16 in
+        let n : length (take 64 (drop 17 st)) ≡ 64 = simp (length-take, length-drop) (omega arith) in
+        let m = listed-length (register g) 64 in
+        ext-getD 0 (listed (register g) 64) (take 64 (drop 17 st)) (m ∙ sym n) (λ j h.
+        let k : j < 64 = omega arith in
+        let e : 17 + 4 * (j / 4) + j % 4 ≡ 17 + j = omega arith in
+        listed-at (register g) 64 j 0 k
+        ∙ ap (λ (l : List ℕ). getD l (j % 4) 0) (listed-at (registersOf st) 16 (j / 4) [] (omega arith))
+        ∙ getD-part st 4 (17 + 4 * (j / 4)) (j % 4) (omega arith)
+        ∙ ap (λ (i : ℕ). getD st i 0) e
+        ∙ sym (getD-part st 64 17 j k))
+
+-- a register more stored
+pub stored-next : (st : List ℕ) (g : List (List ℕ)) (j : ℕ) (l : List ℕ) → l ≡ paste st 17 (listed (register g) 64) j → 81 ≤ length st → j < 64
+    → set l (17 + j) (register g j) ≡ paste st 17 (listed (register g) 64) (j + 1)
+stored-next st g j l e long h =
+    rw (e, ← listed-at (register g) 64 j 0 h, add-one j) (paste-suc st 17 (listed (register g) 64) j 0 (omega arith) (omega (arith, listed-length (register g) 64)))
+
+pub stored-all : (st : List ℕ) (g : List (List ℕ)) → paste st 17 (listed (register g) 64) 64 ≡ withRegs st g
+unfolding around
+stored-all st g = ap (λ (l : List ℕ). take 17 st ++ l ++ drop 81 st) (take-all 64 (listed (register g) 64) (le-of-eq (listed-length (register g) 64)))

@@ -14,3 +14,5 @@ pub mod Bits
 pub mod Effects
 pub mod Deadline
 pub mod Around
+pub mod Choosing
+pub mod Grids

@@ -36,7 +36,7 @@ chosen r s st = record { reply = r; agent = s; state = st }
 abbrev pub nobody : Agent
 nobody = record { pos = 0; regs = 0 ∷ 0 ∷ 0 ∷ 0 ∷ [] }
 
--- the choice of agent a at time t, of a good table and of a state that fits it once its registers are g
+-- the choice of agent a at time t, of a good table and of the state that st is once its registers are g; among st's own words they stay
 unfoldable pub chooseInto : (tb st : List ℕ) (g : List (List ℕ)) (a t : ℕ) → ChoiceOutcome
 chooseInto tb st g a t =
     let full = withRegs st g in

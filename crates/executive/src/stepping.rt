@@ -1,10 +1,20 @@
 // A choice of an agent and a time, of a table and a state that are good.
-use crate::deadlines::{deadline, is_stuck};
+use crate::Agent;
+use crate::Chosen;
+use crate::deadlines::deadline;
+use crate::deadlines::is_stuck;
 use crate::messages::find_best;
-use crate::{Agent, Chosen};
-use tables::replies::{ACCEPTED, AFTER_LATE, AGENT_ENDED, BEFORE_CLOCK, BEFORE_EARLY, NO_SUCH_AGENT, STUCK};
-use tables::rows::{family_of, row_at};
-use tables::{Family, Row};
+use tables::Family;
+use tables::Row;
+use tables::replies::ACCEPTED;
+use tables::replies::AFTER_LATE;
+use tables::replies::AGENT_ENDED;
+use tables::replies::BEFORE_CLOCK;
+use tables::replies::BEFORE_EARLY;
+use tables::replies::NO_SUCH_AGENT;
+use tables::replies::STUCK;
+use tables::rows::family_of;
+use tables::rows::row_at;
 ghost use mathlib.Core.Path.{_≡_};
 ghost use mathlib.Core.Bool.{true};
 ghost use Prim.Native.Nat.{_≤_, _<_};
@@ -15,9 +25,8 @@ ghost use Rattle.tables.specs.Table.{goodTable};
 ghost use Rattle.executive.specs.State.{pool, posPlace, stateWords};
 ghost use Rattle.executive.specs.Messages.{best};
 ghost use Rattle.executive.specs.Effect.{after};
-ghost use Rattle.executive.specs.Fit.{fits};
 ghost use Rattle.executive.specs.Step.{choiceReply, withSent};
-ghost use Rattle.executive.specs.Registers.{withRegs, chosen, chooseInto};
+ghost use Rattle.executive.specs.Registers.{chosen, chooseInto};
 
 // The reply to the choice of agent a at time t: 10 to 15, or 0.
 fn choice_reply(table: &[u32], state: &[u32], a: u32, t: u32) -> u32
@@ -81,7 +90,7 @@ fn put_choice(state: &mut [u32], a: usize, t: u32, r: Row, s: Agent, p: u32)
 
 // The choice of agent a at time t, where the registers stand in regs: those among the state's words are neither read nor written.
 pub fn choose(table: &[u32], state: &mut [u32], regs: [[u32; 4]; 16], a: u32, t: u32) -> Chosen
-    requires { ⌜ (length (now table) ≡ tableWords) × (length (now state) ≡ stateWords) × (goodTable (now table) ≡ true) × (fits (now table) (withRegs (now state) regs) ≡ true) ⌝ }
+    requires { ⌜ (length (now table) ≡ tableWords) × (length (now state) ≡ stateWords) × (goodTable (now table) ≡ true) ⌝ }
     ensures { λ q. ⌜ chosen (q .reply) (q .agent) (now (state .exit)) ≡ chooseInto (now (table .entry)) (now (state .entry)) regs a t ⌝ }
 {
     let reply = choice_reply(table, state, a, t);
