@@ -1,3 +1,4 @@
+-- Laws of the definitions, then what the functions' proofs share.
 pub mod Lists
 pub mod After
 pub mod Choice
@@ -9,8 +10,11 @@ pub mod Ready
 pub mod OneByOne
 pub mod Counted
 pub mod Taken
-pub mod Effects
-pub mod Deadline
 pub mod Stuck
 pub mod Depends
 pub mod Bits
+pub mod Effects
+pub mod Deadline
+pub mod Around
+pub mod Choosing
+pub mod Grids

@@ -13,10 +13,8 @@ ghost use Rattle.executive.specs.Step.{canGo, stuck};
 // The late of agent b's current row; the greatest number where the agent has ended.
 fn deadline_of(table: &[u32], state: &[u32], b: usize) -> u32
     requires { ⌜ (tableWords ≤ length (now table)) × (stateWords ≤ length (now state)) × (b < 16) × (rows (now table) b ≤ 32) ⌝ }
-    ensures {
-        λ d. ⌜ ((t : ℕ) → t < 2 ^ 32
-            → (not (unfinished (now (table .entry)) (now (state .entry)) b) || leb t (current (now (table .entry)) (now (state .entry)) b .late)) ≡ leb t d) ⌝
-    }
+    ensures { λ d. ⌜ ((t : ℕ) → t < 2 ^ 32
+        → (not (unfinished (now (table .entry)) (now (state .entry)) b) || leb t (current (now (table .entry)) (now (state .entry)) b .late)) ≡ leb t d) ⌝ }
 {
     let p = state[1 + b] as usize;
     if table[1 + b] as usize <= p {

@@ -7,7 +7,7 @@ use lib.Dec.{leb}
 use Rattle.tables.specs.Basics.{allBelow}
 use Rattle.tables.specs.Layout.{agents}
 use Rattle.executive.specs.Fit.{unfinished, current, inTime}
-use Rattle.tables.proofs.Good.{few as few-agents, few-rows}
+use Rattle.tables.proofs.Good.{few, few-rows}
 use Rattle.executive.proofs.Deadline.{below-next, leb-less, leb-more, no-limit}
 use Rattle.executive.proofs.deadlines.deadline.Statement.{statement}
 use Rattle.executive.proofs.deadlines.deadline.Tie as tie
@@ -27,14 +27,14 @@ cast-n c = omega (arith, c .shared-slice-known3 .given 0)
 loop-holds : tie.Need-loop-holds Inv-loop μ-loop
 unfolding allBelow
 loop-holds c =
-    let few = few-agents (c .before .before .before .args .table .now) (c .before .before .before .pre .2) in
+    let low = few (c .before .before .before .args .table .now) (c .before .before .before .pre .2) in
     (omega arith, omega arith, λ t w. no-limit t w)
 
 deadline-of-requires : tie.Need-deadline-of-requires Inv-loop μ-loop
 deadline-of-requires c κs =
     let tb = c .before .before .before .before .before .args .table .now in
     let good = c .before .before .before .before .before .pre .2 in
-    let few = few-agents tb good in
+    let low = few tb good in
     let short = few-rows tb good (c .before .loop .b) (omega arith) in
     omega arith
 

@@ -6,7 +6,7 @@ use Rattle.tables.specs.Basics.{allBelow}
 use Rattle.tables.specs.Layout.{agents}
 use Rattle.tables.proofs.Passed.{not-all-below}
 use Rattle.executive.specs.Step.{canGo, stuck}
-use Rattle.tables.proofs.Good.{few as few-agents, few-rows}
+use Rattle.tables.proofs.Good.{few, few-rows}
 use Rattle.executive.proofs.Deadline.{below-on}
 use Rattle.executive.proofs.deadlines.is_stuck.Statement.{statement}
 use Rattle.executive.proofs.deadlines.is_stuck.Tie as tie
@@ -26,14 +26,14 @@ cast-n c = omega (arith, c .shared-slice-known3 .given 0)
 loop-holds : tie.Need-loop-holds Inv-loop μ-loop
 unfolding allBelow
 loop-holds c =
-    let few = few-agents (c .before .before .before .args .table .now) (c .before .before .before .pre .0 .2) in
+    let low = few (c .before .before .before .args .table .now) (c .before .before .before .pre .0 .2) in
     (omega arith, omega arith, refl)
 
 can-go-requires : tie.Need-can-go-requires Inv-loop μ-loop
 can-go-requires c κs =
     let tb = c .before .before .before .before .before .args .table .now in
     let good = c .before .before .before .before .before .pre .0 .2 in
-    let few = few-agents tb good in
+    let low = few tb good in
     let short = few-rows tb good (c .before .loop .b) (omega arith) in
     (omega arith, c .before .before .before .before .before .pre .1)
 
