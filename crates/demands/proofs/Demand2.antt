@@ -15,7 +15,8 @@ use Rattle.executive.proofs.After.{accepted-clock, accepted-length}
 use Rattle.executive.proofs.Start.{start-length, start-clock, start-low, start-register, start-high}
 use Rattle.executive.proofs.Fitting.{fits-says}
 use Rattle.executive.proofs.Fits.{accepted-fits, start-fits}
-use Rattle.executive.proofs.Choice.{Allowed as Accepts, allowed, allowed-reply}
+use Rattle.executive.specs.Laws.{Allowed as Accepts}
+use Rattle.executive.proofs.Choice.{allowed, allowed-reply}
 use Rattle.demands.specs.Reasons.{Allowed}
 use Rattle.demands.specs.Instance.{published, decode, stateOf, startOf}
 use Rattle.demands.specs.Demand2.{ChoiceIsModels, WordsAreModels, StartIsModels}

@@ -20,7 +20,8 @@ use Rattle.executive.specs.State.{mark, value, pool}
 use Rattle.executive.specs.Messages.{visible, best}
 use Rattle.tables.proofs.Good.{few}
 use Rattle.executive.proofs.Fitting.{Fits, marked}
-use Rattle.executive.proofs.Taken.{GoesBefore, Taken, best-taken}
+use Rattle.executive.specs.Laws.{GoesBefore, Taken}
+use Rattle.executive.proofs.Taken.{best-taken}
 use Rattle.demands.specs.Instance.{published, dated, sentOf}
 use Rattle.demands.proofs.Rows.{sent-number, awaited-number, sends-number, awaits-number, valueOf}
 use Rattle.demands.proofs.Decode.{sent-some, present}
@@ -59,7 +60,7 @@ module _ (tb st : List ℕ) (good : goodTable tb ≡ true) (f : Fits tb st) (r :
         seen = and-2 (eqb (mark st b i) 1 && eqb (row tb b i .k) (r .k)) _ v;
       }
 
-  before : {c j b i : ℕ} → Before (published tb) c j b i → GoesBefore tb (pool st) r c j b i
+  before : {c j b i : ℕ} → Before (published tb) c j b i → GoesBefore tb c j b i
   before (later l) = inl l
   before (lower e l) = inr (sym e, inl l)
   before (higher e same l) = inr (sym e, inr (same, l))

@@ -22,7 +22,7 @@ use Rattle.executive.specs.Effect.{after}
 use Rattle.executive.specs.Fit.{current}
 use Rattle.executive.specs.Step.{accepted}
 use Rattle.tables.proofs.Good.{few, few-rows}
-use Rattle.executive.proofs.Choice.{Allowed as Accepts}
+use Rattle.executive.specs.Laws.{Allowed as Accepts}
 use Rattle.executive.proofs.Fitting.{Fits}
 use Rattle.executive.proofs.After.{next, accepted-clock, accepted-self, accepted-agent-other, sent-own-mark, sent-own-value, mark-away, value-away, mark-unsent, value-unsent}
 use Rattle.demands.specs.Reasons.{Allowed, allowed}

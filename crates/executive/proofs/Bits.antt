@@ -11,11 +11,8 @@ use Rattle.tables.specs.declared.Row.{Row}
 use Rattle.executive.specs.declared.Agent.{Agent}
 use Rattle.executive.specs.declared.Best.{Best}
 use Rattle.executive.specs.Effect.{after, put}
+use Rattle.executive.specs.Laws.{bit, bits, Lowest}
 use lib.Count.{onesIn, trailingZeros, under}
-
--- bit i of y
-abbrev pub bit : ℕ → ℕ → ℕ
-bit y i = y / 2 ^ i % 2
 
 bit-low : (y : ℕ) → bit y 0 ≡ y % 2
 bit-low y = ap (λ (x : ℕ). x % 2) (div-one y)
@@ -24,11 +21,6 @@ bit-half : (y i : ℕ) → bit (y / 2) i ≡ bit y (suc i)
 bit-half y i = ap (λ (x : ℕ). x % 2) (div-div-eq-div-mul y 2 (2 ^ i) ∙ ap (λ (x : ℕ). y / x) (sym (pow-succ' 2 i)))
 
 -- ---- ONES
-
--- the sum of the n lowest bits
-abbrev pub bits : ℕ → ℕ → ℕ
-bits y zero = 0
-bits y (suc n) = bits y n + bit y n
 
 bits-half : (y n : ℕ) → bits y (suc n) ≡ y % 2 + bits (y / 2) n
 bits-half y zero = let e = bit-low y in omega arith
@@ -44,12 +36,6 @@ pub ones-is : (y : ℕ) → onesIn 32 y ≡ bits y 32
 ones-is y = ones-bits 32 y
 
 -- ---- LOW
-
--- t zero bits below the lowest one bit, of the n lowest bits of y; n where none of them is one
-pub record Lowest (n y t : ℕ) : Type 0 where
-  pub most : t ≤ n
-  pub zeros : (i : ℕ) → i < t → bit y i ≡ 0
-  pub one : t < n → bit y t ≡ 1
 
 low-bits : (n y : ℕ) → Lowest n y (trailingZeros n y)
 unfolding trailingZeros

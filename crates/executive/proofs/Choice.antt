@@ -14,6 +14,7 @@ use Rattle.tables.proofs.Passed.{and-1, and-2, below, all-below, not-all-below,
 use Rattle.executive.specs.State.{clock, pos}
 use Rattle.executive.specs.Fit.{unfinished, current, inTime}
 use Rattle.executive.specs.Step.{choiceReply, stuck, canGo}
+use Rattle.executive.specs.Laws.{InTime, Allowed}
 
 -- no rule of the list whose test holds has the number n
 abbrev pub lacks : ℕ → List Rule → Bool
@@ -28,17 +29,13 @@ lacking n ((true ⇒ r) ∷ rs) h e =
 lacking n ((false ⇒ r) ∷ rs) h e = lacking n rs (and-2 (not (eqb r n && false)) (lacks n rs) h) e
 
 module _ (tb st : List ℕ) where
-  -- the time is "not above the late of any unfinished agent's current row"
-  abbrev pub InTime : ℕ → Type 0
-  InTime t = (b : ℕ) → b < agents tb → pos st b < rows tb b → t ≤ current tb st b .late
-
-  pub in-time : (t : ℕ) → inTime tb st t ≡ true → InTime t
+  pub in-time : (t : ℕ) → inTime tb st t ≡ true → InTime tb st t
   unfolding inTime unfinished
   in-time t h b hb live =
       let w : (not (ltb (pos st b) (rows tb b)) || leb t (current tb st b .late)) ≡ true = below (agents tb) _ h b hb in
       leb-true t (current tb st b .late) (rw (lt-ltb (pos st b) (rows tb b) live) at w)
 
-  pub time-in : (t : ℕ) → InTime t → inTime tb st t ≡ true
+  pub time-in : (t : ℕ) → InTime tb st t → inTime tb st t ≡ true
   unfolding inTime unfinished
   time-in t h = all-below (agents tb) _ (λ b hb. go b hb (ltb (pos st b) (rows tb b)) refl)
     where
@@ -47,16 +44,8 @@ module _ (tb st : List ℕ) where
       go b hb true e = rw e (le-leb t (current tb st b .late) (h b hb (ltb-true (pos st b) (rows tb b) e)))
       go b hb false e = rw e
 
-  -- "It is accepted exactly when .."
-  pub record Allowed (a t : ℕ) : Type 0 where
-    pub agent : a < agents tb
-    pub unended : pos st a < rows tb a
-    pub clock : clock st ≤ t
-    pub early : current tb st a .early ≤ t
-    pub late : InTime t
-
   module _ (a t : ℕ) where
-    pub allowed : choiceReply tb st a t ≡ 0 → Allowed a t
+    pub allowed : choiceReply tb st a t ≡ 0 → Allowed tb st a t
     unfolding choiceReply
     allowed h =
         let clear = passed _ tt h in
@@ -69,7 +58,7 @@ module _ (tb st : List ℕ) where
         }
 
     -- an agent that may be chosen at some time can go
-    pub can-go : Allowed a t → canGo tb st a ≡ true
+    pub can-go : Allowed tb st a t → canGo tb st a ≡ true
     unfolding canGo unfinished
     can-go c =
         rw (lt-ltb (pos st a) (rows tb a) (c .unended))
@@ -78,11 +67,11 @@ module _ (tb st : List ℕ) where
         let n = c .clock in
         let e = c .early in omega arith))
 
-    pub not-stuck : Allowed a t → stuck tb st ≡ false
+    pub not-stuck : Allowed tb st a t → stuck tb st ≡ false
     unfolding stuck
     not-stuck c = not-all-below (agents tb) (λ b. not (canGo tb st b)) a (c .agent) (rw (can-go c))
 
-    pub allowed-reply : Allowed a t → choiceReply tb st a t ≡ 0
+    pub allowed-reply : Allowed tb st a t → choiceReply tb st a t ≡ 0
     unfolding choiceReply first
     allowed-reply c =
         rw (

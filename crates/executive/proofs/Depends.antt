@@ -17,16 +17,11 @@ use Rattle.executive.specs.Fit.{fits, current}
 use Rattle.executive.specs.Step.{choiceReply, accepted}
 use Rattle.executive.specs.declared.Agent.{Agent}
 use Rattle.executive.specs.declared.Best.{Best}
+use Rattle.executive.specs.Laws.{SameSeen}
 use Rattle.tables.proofs.Good.{few}
 use Rattle.executive.proofs.After.{next, accepted-self}
 use Rattle.executive.proofs.Choice.{allowed}
 use Rattle.executive.proofs.Fitting.{Fits, fits-says}
-
--- the two pools agree on the messages visible to the row, of those places of each agent b below `places b`
-module _ (tb : List ℕ) (places : ℕ → ℕ) (p q : Pool) (r : Row) where
-  pub record SameSeen : Type 0 where
-    pub seen : (b i : ℕ) → b < agents tb → i < places b → visible tb p r b i ≡ visible tb q r b i
-    pub told : (b i : ℕ) → b < agents tb → i < places b → visible tb p r b i ≡ true → p .value b i ≡ q .value b i
 
 module _ (tb : List ℕ) (p q : Pool) (r : Row) (same : SameSeen tb (λ b. 32) p q r) where
   look-same : (b i : ℕ) (m : Best) → b < agents tb → i < 32 → look tb p r b i m ≡ look tb q r b i m

@@ -14,7 +14,8 @@ use Rattle.executive.specs.Fit.{fits, current}
 use Rattle.executive.specs.Step.{choiceReply, accepted}
 use Rattle.tables.proofs.Good.{few, few-rows, table-facts, target, window, late-bound, late-climbs}
 use Rattle.executive.proofs.After.{accepted-other, accepted-clock, accepted-pos-other, pos-rises, pos-within, sent-own-mark, mark-away, value-away, mark-unsent, value-unsent}
-use Rattle.executive.proofs.Choice.{InTime, Allowed, allowed}
+use Rattle.executive.specs.Laws.{InTime, Allowed}
+use Rattle.executive.proofs.Choice.{allowed}
 use Rattle.executive.proofs.Fitting.{Fits, Unsent, Sent, fits-says, fits-holds}
 use Rattle.executive.proofs.Start.{start-clock, start-low, start-register, start-high}
 

@@ -18,7 +18,8 @@ use Rattle.executive.specs.State.{clock, pos, mark, value, posPlace, reg
 use Rattle.executive.specs.Fit.{fits, goodPlaces, goodMark}
 use Rattle.tables.proofs.Zeros.{zero-at, zero-all}
 use Rattle.tables.proofs.Good.{few-rows}
-use Rattle.executive.proofs.Choice.{InTime, in-time, time-in}
+use Rattle.executive.specs.Laws.{InTime}
+use Rattle.executive.proofs.Choice.{in-time, time-in}
 
 module _ (tb st : List ℕ) where
   -- nothing is sent from row i of agent b; or it is a SEND row below its agent's position, and is sent

@@ -13,6 +13,7 @@ pub mod Taken
 pub mod Stuck
 pub mod Depends
 pub mod Bits
+pub mod Laws
 pub mod Effects
 pub mod Deadline
 pub mod Around

@@ -14,6 +14,7 @@ use Rattle.executive.specs.Fit.{fits}
 use Rattle.executive.specs.Step.{choiceReply, accepted}
 use Rattle.executive.specs.Run.{RunOutcome, ended, runFrom}
 use Rattle.executive.specs.Calls.{tablePart, statePart, pastState, Outcome, startInto, stepInto, runRefusal, runInto, before}
+use Rattle.executive.specs.Laws.{oneByOne}
 use Rattle.tables.proofs.Good.{few}
 use Rattle.executive.proofs.After.{accepted-length}
 use Rattle.executive.proofs.Choice.{allowed}
@@ -21,16 +22,6 @@ use Rattle.executive.proofs.Start.{start-length}
 use Rattle.executive.proofs.Fits.{start-fits, accepted-fits}
 use Rattle.executive.proofs.Runs.{run-go, run-stop}
 use Rattle.executive.proofs.Ready.{answer, ready-reply, stepped-by, part-is, past-is, make-ready, started, may-start}
-
--- The choices made one by one, each a call of `step` on the words that the one before left, up to the first that is refused.
-unfoldable pub oneByOne : (tb st : List ℕ) (n : ℕ) → List ℕ → RunOutcome
-oneByOne tb st n [] = ended 0 n st
-oneByOne tb st n (a ∷ []) = ended 0 n st
-oneByOne tb st n (a ∷ t ∷ cs) =
-    elim (stepInto tb st a t .reply) [
-      | zero ↦ oneByOne tb (stepInto tb st a t .state) (n + 1) cs
-      | suc r ↦ ended (suc r) n st
-    ]
 
 module _ (tb : List ℕ) where
   one-by : (st : List ℕ) (n a t : ℕ) (cs : List ℕ) (o : Outcome) → stepInto tb st a t ≡ o

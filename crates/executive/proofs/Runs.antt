@@ -14,7 +14,8 @@ use Rattle.executive.specs.Step.{choiceReply, accepted}
 use Rattle.executive.specs.Run.{RunOutcome, ended, runFrom}
 use Rattle.tables.proofs.Good.{few, few-rows}
 use Rattle.executive.proofs.After.{accepted-length, pos-rises}
-use Rattle.executive.proofs.Choice.{Allowed, allowed}
+use Rattle.executive.specs.Laws.{Allowed}
+use Rattle.executive.proofs.Choice.{allowed}
 use Rattle.executive.proofs.Fitting.{Fits}
 use Rattle.executive.proofs.Start.{start-length}
 use Rattle.executive.proofs.Fits.{start-is, accepted-is, new-position}

@@ -16,7 +16,8 @@ use Rattle.executive.specs.State.{clock, pos}
 use Rattle.executive.specs.Fit.{unfinished, current, inTime}
 use Rattle.executive.specs.Step.{canGo, stuck, choiceReply}
 use Rattle.tables.proofs.Good.{window}
-use Rattle.executive.proofs.Choice.{Allowed, in-time, not-stuck, lacking, reply-10, reply-11}
+use Rattle.executive.specs.Laws.{Allowed}
+use Rattle.executive.proofs.Choice.{in-time, not-stuck, lacking, reply-10, reply-11}
 use Rattle.executive.proofs.Fitting.{Fits}
 
 module _ (tb st : List ℕ) where

@@ -13,6 +13,7 @@ use Rattle.executive.specs.State.{Pool}
 use Rattle.executive.specs.Messages.{visible, beats, look, lookRows, lookAgents, best}
 use Rattle.executive.specs.declared.Best.{Best}
 use Rattle.executive.specs.declared.Best.the-variants.{Nothing, Message}
+use Rattle.executive.specs.Laws.{Visible, GoesBefore, NoneVisible, Taken}
 
 -- the order in one number: a greater late, then a lower agent, then a higher row
 abbrev rank : (l b i : ℕ) → ℕ
@@ -41,18 +42,15 @@ module _ (l b i l′ b′ i′ v : ℕ) where
           inr (rw (le-ltb l′ l (omega arith), eq-eqb l l′ e, le-ltb b b′ (omega arith), eq-eqb b b′ g, le-ltb i′ i (omega arith)), omega arith)
 
 module _ (tb : List ℕ) (p : Pool) (r : Row) where
-  abbrev pub Visible : ℕ → ℕ → Type 0
-  Visible b i = visible tb p r b i ≡ true
-
   abbrev late : ℕ → ℕ → ℕ
   late b i = row tb b i .late
 
   -- of the places before place n, in the order of the table, m is the best
   abbrev Top : ℕ → Best → Type 0
-  Top n Nothing = (c j : ℕ) → j < 32 → 32 * c + j < n → Visible c j → ⊥
+  Top n Nothing = (c j : ℕ) → j < 32 → 32 * c + j < n → Visible tb p r c j → ⊥
   Top n (Message l b i v) =
-      (i < 32) × (32 * b + i < n) × Visible b i × (l ≡ late b i) × (v ≡ p .value b i)
-      × ((c j : ℕ) → j < 32 → 32 * c + j < n → Visible c j → rank (late c j) c j ≤ rank l b i)
+      (i < 32) × (32 * b + i < n) × Visible tb p r b i × (l ≡ late b i) × (v ≡ p .value b i)
+      × ((c j : ℕ) → j < 32 → 32 * c + j < n → Visible tb p r c j → rank (late c j) c j ≤ rank l b i)
 
   -- one place more
   module _ (b i : ℕ) (hb : b < 16) (hi : i < 32) where
@@ -67,18 +65,18 @@ module _ (tb : List ℕ) (p : Pool) (r : Row) where
     abbrev new : Best
     new = Message (late b i) b i (p .value b i)
 
-    hidden : (m : Best) → Top (32 * b + i) m → (Visible b i → ⊥) → Top (suc (32 * b + i)) m
-    hidden Nothing top h = upto (λ c j. Visible c j → ⊥) top h
+    hidden : (m : Best) → Top (32 * b + i) m → (Visible tb p r b i → ⊥) → Top (suc (32 * b + i)) m
+    hidden Nothing top h = upto (λ c j. Visible tb p r c j → ⊥) top h
     hidden (Message l b′ i′ v) top h = (
       top .0,
       omega (arith, top .1),
       top .2,
       top .3,
       top .4,
-      upto (λ c j. Visible c j → rank (late c j) c j ≤ rank l b′ i′) (top .5) (λ u. absurd (h u)),
+      upto (λ c j. Visible tb p r c j → rank (late c j) c j ≤ rank l b′ i′) (top .5) (λ u. absurd (h u)),
     )
 
-    against : (l b′ i′ w : ℕ) → Top (32 * b + i) (Message l b′ i′ w) → Visible b i → Wins (late b i) b i l b′ i′ w ⊎ Loses (late b i) b i l b′ i′ w
+    against : (l b′ i′ w : ℕ) → Top (32 * b + i) (Message l b′ i′ w) → Visible tb p r b i → Wins (late b i) b i l b′ i′ w ⊎ Loses (late b i) b i l b′ i′ w
         → Top (suc (32 * b + i)) (cond (beats (late b i) b i (Message l b′ i′ w)) new (Message l b′ i′ w))
     against l b′ i′ w top v (inl q) =
         rw (q .0) (
@@ -87,7 +85,7 @@ module _ (tb : List ℕ) (p : Pool) (r : Row) where
           v,
           refl,
           refl,
-          upto (λ c j. Visible c j → rank (late c j) c j ≤ rank (late b i) b i) (λ c j hj d u. let t = top .5 c j hj d u in let n = q .1 in omega arith) (λ u. omega arith),
+          upto (λ c j. Visible tb p r c j → rank (late c j) c j ≤ rank (late b i) b i) (λ c j hj d u. let t = top .5 c j hj d u in let n = q .1 in omega arith) (λ u. omega arith),
         )
     against l b′ i′ w top v (inr q) =
         rw (q .0) (
@@ -96,10 +94,10 @@ module _ (tb : List ℕ) (p : Pool) (r : Row) where
           top .2,
           top .3,
           top .4,
-          upto (λ c j. Visible c j → rank (late c j) c j ≤ rank l b′ i′) (top .5) (λ u. q .1),
+          upto (λ c j. Visible tb p r c j → rank (late c j) c j ≤ rank l b′ i′) (top .5) (λ u. q .1),
         )
 
-    seen : (m : Best) → Top (32 * b + i) m → Visible b i → Top (suc (32 * b + i)) (cond (beats (late b i) b i m) new m)
+    seen : (m : Best) → Top (32 * b + i) m → Visible tb p r b i → Top (suc (32 * b + i)) (cond (beats (late b i) b i m) new m)
     unfolding beats
     seen Nothing top v = (
       hi,
@@ -107,7 +105,7 @@ module _ (tb : List ℕ) (p : Pool) (r : Row) where
       v,
       refl,
       refl,
-      upto (λ c j. Visible c j → rank (late c j) c j ≤ rank (late b i) b i) (λ c j hj l u. absurd (top c j hj l u)) (λ u. omega arith),
+      upto (λ c j. Visible tb p r c j → rank (late c j) c j ≤ rank (late b i) b i) (λ c j hj l u. absurd (top c j hj l u)) (λ u. omega arith),
     )
     seen (Message l b′ i′ w) top v = against l b′ i′ w top v (compared (late b i) b i l b′ i′ w hb hi (omega (arith, top .1)) (top .0))
 
@@ -136,24 +134,13 @@ module _ (tb : List ℕ) (p : Pool) (r : Row) where
 
   -- ---- in the words of 01
 
-  -- "the one with the greatest late is taken; then the one of the lower agent; then the one of the higher row":
-  -- the message of row j of agent c goes before that of row i of agent b
-  abbrev pub GoesBefore : (c j b i : ℕ) → Type 0
-  GoesBefore c j b i = (late b i < late c j) ⊎ ((late c j ≡ late b i) × ((c < b) ⊎ ((c ≡ b) × (i < j))))
-
-  abbrev pub Taken : Best → Type 0
-  Taken Nothing = (c j : ℕ) → c < agents tb → j < 32 → Visible c j → ⊥
-  Taken (Message l b i v) =
-      (b < agents tb) × (i < 32) × Visible b i × (l ≡ late b i) × (v ≡ p .value b i)
-      × ((c j : ℕ) → c < agents tb → j < 32 → Visible c j → GoesBefore c j b i → ⊥)
-
   module _ (few : agents tb ≤ 16) where
-    top-taken : (m : Best) → Top (32 * agents tb) m → Taken m
+    top-taken : (m : Best) → Top (32 * agents tb) m → Taken tb p r m
     top-taken Nothing top = λ c j hc hj. top c j hj (omega arith)
     top-taken (Message l b i v) top =
         (omega (arith, top .0, top .1), top .0, top .2, top .3, top .4, λ c j hc hj u. not-before c j hc hj (top .5 c j hj (omega arith) u))
       where
-        not-before : (c j : ℕ) → c < agents tb → j < 32 → rank (late c j) c j ≤ rank l b i → GoesBefore c j b i → ⊥
+        not-before : (c j : ℕ) → c < agents tb → j < 32 → rank (late c j) c j ≤ rank l b i → GoesBefore tb c j b i → ⊥
         not-before c j hc hj h (inl g) = omega (arith, top .0, top .1, top .3)
         not-before c j hc hj h (inr q) = tie (q .1)
           where
@@ -161,14 +148,14 @@ module _ (tb : List ℕ) (p : Pool) (r : Row) where
             tie (inl g) = omega (arith, q .0, top .0, top .1, top .3)
             tie (inr g) = omega (arith, q .0, top .0, top .1, top .3)
 
-    pub best-taken : Taken (best tb p r)
+    pub best-taken : Taken tb p r (best tb p r)
     unfolding best
     best-taken = top-taken (lookAgents tb p r (agents tb)) (agents-top (agents tb) few)
 
     -- "none": exactly where nothing is visible
-    pub best-none : best tb p r ≡ Nothing ↔ ((c j : ℕ) → c < agents tb → j < 32 → Visible c j → ⊥)
-    best-none = (λ e. subst Taken e best-taken, λ h. go (best tb p r) refl h)
+    pub best-none : best tb p r ≡ Nothing ↔ NoneVisible tb p r
+    best-none = (λ e. subst (Taken tb p r) e best-taken, λ h. go (best tb p r) refl h)
       where
-        go : (m : Best) → best tb p r ≡ m → ((c j : ℕ) → c < agents tb → j < 32 → Visible c j → ⊥) → best tb p r ≡ Nothing
+        go : (m : Best) → best tb p r ≡ m → NoneVisible tb p r → best tb p r ≡ Nothing
         go Nothing e h = e
-        go (Message l b i v) e h = let t = subst Taken e best-taken in absurd (h b i (t .0) (t .1) (t .2))
+        go (Message l b i v) e h = let t = subst (Taken tb p r) e best-taken in absurd (h b i (t .0) (t .1) (t .2))

@@ -7,4 +7,5 @@ pub mod Step
 pub mod Registers
 pub mod Run
 pub mod Calls
+pub mod Laws
 pub mod Cases

@@ -1,0 +1,158 @@
+-- Laws that show the definitions to mean what 01 says: each as a statement, in 01's words. proofs/Laws.antt proves each under its own name. Assumes nothing.
+use mathlib.Core.Path.{_≡_}
+use mathlib.Core.Logic.{_↔_, _⊎_}
+use mathlib.Core.Bool.{true, false}
+use mathlib.Core.List.{List, [], _∷_}
+use Prim.Native.Nat.{ℕ, zero, suc, _+_, _-_, _/_, _%_, _^_, _≤_, _<_}
+use lib.ListN.{length}
+use lib.Count.{onesIn, trailingZeros}
+use Rattle.tables.specs.Layout.{agents, rows, row, tableWords}
+use Rattle.tables.specs.Table.{goodTable}
+use Rattle.tables.specs.declared.Row.{Row}
+use Rattle.executive.specs.declared.Best.{Best}
+use Rattle.executive.specs.declared.Best.the-variants.{Nothing, Message}
+use Rattle.executive.specs.State.{clock, pos, Pool, pool, agentAt, startWords, stateWords}
+use Rattle.executive.specs.Messages.{visible, best}
+use Rattle.executive.specs.Fit.{current, fits}
+use Rattle.executive.specs.Step.{choiceReply, stuck, accepted}
+use Rattle.executive.specs.Run.{RunOutcome, ended}
+use Rattle.executive.specs.Calls.{startInto, stepInto, runRefusal, runInto}
+
+-- ---- the message that a RECV takes
+
+abbrev pub Visible : List ℕ → Pool → Row → ℕ → ℕ → Type 0
+Visible tb p r b i = visible tb p r b i ≡ true
+
+-- "the one with the greatest late is taken; then the one of the lower agent; then the one of the higher row":
+-- the message of row j of agent c goes before that of row i of agent b
+abbrev pub GoesBefore : List ℕ → (c j b i : ℕ) → Type 0
+GoesBefore tb c j b i =
+    (row tb b i .late < row tb c j .late) ⊎ ((row tb c j .late ≡ row tb b i .late) × ((c < b) ⊎ ((c ≡ b) × (i < j))))
+
+abbrev pub NoneVisible : List ℕ → Pool → Row → Type 0
+NoneVisible tb p r = (c j : ℕ) → c < agents tb → j < 32 → Visible tb p r c j → ⊥
+
+-- nothing is taken where nothing is visible; a message that is taken is visible, and no visible message goes before it
+abbrev pub Taken : List ℕ → Pool → Row → Best → Type 0
+Taken tb p r Nothing = NoneVisible tb p r
+Taken tb p r (Message l b i v) =
+    (b < agents tb) × (i < 32) × Visible tb p r b i × (l ≡ row tb b i .late) × (v ≡ p .value b i)
+    × ((c j : ℕ) → c < agents tb → j < 32 → Visible tb p r c j → GoesBefore tb c j b i → ⊥)
+
+abbrev pub BestIsTaken : Type 0
+BestIsTaken = (tb : List ℕ) (p : Pool) (r : Row) → agents tb ≤ 16 → Taken tb p r (best tb p r)
+
+abbrev pub NoneIsTaken : Type 0
+NoneIsTaken = (tb : List ℕ) (p : Pool) (r : Row) → agents tb ≤ 16 → best tb p r ≡ Nothing ↔ NoneVisible tb p r
+
+-- ---- what an agent's next state depends on
+
+-- two pools agree on the messages visible to a row, of those places of each agent b below `places b`
+pub record SameSeen (tb : List ℕ) (places : ℕ → ℕ) (p q : Pool) (r : Row) : Type 0 where
+  pub seen : (b i : ℕ) → b < agents tb → i < places b → visible tb p r b i ≡ visible tb q r b i
+  pub told : (b i : ℕ) → b < agents tb → i < places b → visible tb p r b i ≡ true → p .value b i ≡ q .value b i
+
+-- a table that is accepted, with a state that fits it
+pub record Sound (tb st : List ℕ) : Type 0 where
+  pub good : goodTable tb ≡ true
+  pub table : length tb ≡ tableWords
+  pub fit : fits tb st ≡ true
+  pub state : length st ≡ stateWords
+
+-- "two state records of one table that agree on these, and both accept a step of that agent, give it the same next state"
+abbrev pub NextDepends : Type 0
+NextDepends = (tb st st′ : List ℕ) → Sound tb st → Sound tb st′ → (a t t′ : ℕ) → choiceReply tb st a t ≡ 0 → choiceReply tb st′ a t′ ≡ 0
+    → agentAt st a ≡ agentAt st′ a → SameSeen tb (rows tb) (pool st) (pool st′) (current tb st a)
+    → agentAt (accepted tb st a t) a ≡ agentAt (accepted tb st′ a t′) a
+
+-- ---- acceptance and 14
+
+-- the time is "not above the late of any unfinished agent's current row"
+abbrev pub InTime : (tb st : List ℕ) → ℕ → Type 0
+InTime tb st t = (b : ℕ) → b < agents tb → pos st b < rows tb b → t ≤ current tb st b .late
+
+-- "It is accepted exactly when .."
+pub record Allowed (tb st : List ℕ) (a t : ℕ) : Type 0 where
+  pub agent : a < agents tb
+  pub unended : pos st a < rows tb a
+  pub clock : clock st ≤ t
+  pub early : current tb st a .early ≤ t
+  pub late : InTime tb st t
+
+abbrev pub AcceptedExactly : Type 0
+AcceptedExactly = (tb st : List ℕ) (a t : ℕ) → choiceReply tb st a t ≡ 0 ↔ Allowed tb st a t
+
+-- 14's test holds exactly where no agent and no time at all would be accepted, whether or not the state fits
+abbrev pub StuckExactly : Type 0
+StuckExactly = (tb st : List ℕ) → stuck tb st ≡ true ↔ ((a t : ℕ) → Allowed tb st a t → ⊥)
+
+-- and that is nowhere in a state that fits, as long as some agent is unfinished
+abbrev pub NeverStuck : Type 0
+NeverStuck = (tb st : List ℕ) → Sound tb st → (a : ℕ) → a < agents tb → pos st a < rows tb a → stuck tb st ≡ false
+
+-- ---- the fit
+
+abbrev pub StartFits : Type 0
+StartFits = (tb : List ℕ) → goodTable tb ≡ true → length tb ≡ tableWords → Sound tb (startWords tb)
+
+-- so that a run never tests 9, and a step after a step never gives it
+abbrev pub StepKeepsFit : Type 0
+StepKeepsFit = (tb st : List ℕ) (a t : ℕ) → Sound tb st → choiceReply tb st a t ≡ 0 → Sound tb (accepted tb st a t)
+
+-- ---- runs
+
+-- the choices made one by one, each a call of `step` on the words that the one before left, up to the first that is refused
+unfoldable pub oneByOne : (tb st : List ℕ) (n : ℕ) → List ℕ → RunOutcome
+oneByOne tb st n [] = ended 0 n st
+oneByOne tb st n (a ∷ []) = ended 0 n st
+oneByOne tb st n (a ∷ t ∷ cs) =
+    elim (stepInto tb st a t .reply) [
+      | zero ↦ oneByOne tb (stepInto tb st a t .state) (n + 1) cs
+      | suc r ↦ ended (suc r) n st
+    ]
+
+-- what a run replies and leaves is what the same steps made one by one reply and leave, starting from `start`
+abbrev pub RunIsSteps : Type 0
+RunIsSteps = (tb st cs : List ℕ) → runRefusal tb st cs ≡ 0 → runInto tb st cs ≡ oneByOne tb (startInto tb st .state) 0 cs
+
+-- the first k choices of the list are accepted, one after the other
+abbrev pub Begins : (tb st cs : List ℕ) → ℕ → Type 0
+Begins tb st cs zero = Unit {0}
+Begins tb st [] (suc k) = ⊥
+Begins tb st (a ∷ []) (suc k) = ⊥
+Begins tb st (a ∷ t ∷ cs) (suc k) = (stepInto tb st a t .reply ≡ 0) × Begins tb (stepInto tb st a t .state) cs k
+
+-- the count is the length of the accepted beginning: so many are accepted, no longer beginning is, and they are at most 512
+abbrev pub RunCounts : Type 0
+RunCounts = (tb st cs : List ℕ) → runRefusal tb st cs ≡ 0
+    → Begins tb (startInto tb st .state) cs (runInto tb st cs .count)
+    × ((j : ℕ) → Begins tb (startInto tb st .state) cs j → j ≤ runInto tb st cs .count)
+    × (runInto tb st cs .count ≤ 512)
+
+-- ---- bits
+
+-- bit i of y, and the sum of the n lowest bits
+abbrev pub bit : ℕ → ℕ → ℕ
+bit y i = y / 2 ^ i % 2
+
+abbrev pub bits : ℕ → ℕ → ℕ
+bits y zero = 0
+bits y (suc n) = bits y n + bit y n
+
+-- t zero bits below the lowest one bit, of the n lowest bits of y; n where none of them is one
+pub record Lowest (n y t : ℕ) : Type 0 where
+  pub most : t ≤ n
+  pub zeros : (i : ℕ) → i < t → bit y i ≡ 0
+  pub one : t < n → bit y t ≡ 1
+
+-- ONES: "the number of one bits in y"
+abbrev pub OnesAreBits : Type 0
+OnesAreBits = (y : ℕ) → onesIn 32 y ≡ bits y 32
+
+-- LOW: "the number of zero bits below the lowest one bit of y; 32 where y is 0"
+abbrev pub LowIsLowest : Type 0
+LowIsLowest = (y : ℕ) → Lowest 32 y (trailingZeros 32 y) × ((trailingZeros 32 y ≡ 32) ↔ ((i : ℕ) → i < 32 → bit y i ≡ 0))
+
+-- SUB: the number below 2^32 that, with y added, is x modulo 2^32. (ADD is the remainder by its own text.)
+abbrev pub SubIsRemainder : Type 0
+SubIsRemainder = (x y : ℕ) → y ≤ 2 ^ 32 → ((x + 2 ^ 32 - y) % 2 ^ 32 < 2 ^ 32) × (((x + 2 ^ 32 - y) % 2 ^ 32 + y) % 2 ^ 32 ≡ x % 2 ^ 32)
