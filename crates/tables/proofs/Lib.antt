@@ -13,3 +13,5 @@ pub mod Accepted
 pub mod RowsRead
 pub mod Loads
 pub mod Outcomes
+pub mod Stores
+pub mod ReadGood
