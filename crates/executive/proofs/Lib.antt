@@ -16,3 +16,5 @@ pub mod Deadline
 pub mod Around
 pub mod Choosing
 pub mod Grids
+pub mod Front
+pub mod Outcomes
