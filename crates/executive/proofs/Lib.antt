@@ -18,3 +18,4 @@ pub mod Choosing
 pub mod Grids
 pub mod Front
 pub mod Outcomes
+pub mod RunOn
