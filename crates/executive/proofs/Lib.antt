@@ -19,3 +19,6 @@ pub mod Deadline
 pub mod Around
 pub mod Choosing
 pub mod Grids
+pub mod Front
+pub mod Outcomes
+pub mod RunOn
