@@ -1,0 +1,2 @@
+-- Laws that the proofs of several functions cite.
+pub mod Writes
