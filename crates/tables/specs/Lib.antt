@@ -6,5 +6,6 @@ pub mod Rows
 pub mod Table
 pub mod Lines
 pub mod Frames
+pub mod Heads
 pub mod Reader
 pub mod Calls

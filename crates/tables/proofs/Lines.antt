@@ -1,0 +1,167 @@
+-- Strings of bytes, digits and numbers, a byte at a time; and the lines of a text: they are the text, and each ends at its newline. Assumes nothing.
+use mathlib.Core.Path.{_≡_, refl, sym, ap, subst, _∙_}
+use mathlib.Core.Bool.{Bool, true, false, _&&_, cond}
+use mathlib.Core.List.{List, [], _∷_, _++_}
+use Prim.Native.Nat.{ℕ, zero, suc, _+_, _-_, _*_, _≤_, _<_, _^_}
+use native.Mathlib.Nat.{pow-succ', pow-le-pow-right, lt-of-lt-of-le}
+use native.Mathlib.Numerals.{add-one}
+use native.Mathlib.Omega.{arith}
+use lib.Dec.{ltb, eqb, lit<}
+use lib.ListN.{length, take, drop, getD, length-take, length-drop, drop-of-length-le}
+use lib.Seq.{drop-cons, drop-at, take-suc, take-take, length-take-le, getD-drop}
+use borrow.Author.Tests.{eqb-true, eq-eqb, ne-eqb, ltb-true, lt-ltb}
+use Rattle.tables.specs.Lines.{same, newline, onto, lines, hexDigit, allHex, number, digitsLine}
+use Rattle.tables.specs.Heads.{digitsAt}
+use Rattle.tables.proofs.Tests.{and-left, and-right}
+
+pub and-first : (a b : Bool) → (a && b) ≡ true → a ≡ true
+and-first true b h = refl
+and-first false b h = h
+
+pub and-second : (a b : Bool) → (a && b) ≡ true → b ≡ true
+and-second true b h = h
+and-second false b h = cc
+
+pub and-assoc : (a b c : Bool) → (a && (b && c)) ≡ ((a && b) && c)
+and-assoc true b c = refl
+and-assoc false b c = refl
+
+and-true : (a : Bool) → (a && true) ≡ a
+and-true true = refl
+and-true false = refl
+
+-- ---- the same string
+
+pub same-eq : (a b : List ℕ) → same a b ≡ true → a ≡ b
+unfolding same
+same-eq [] [] h = refl
+same-eq [] (y ∷ b) h = cc
+same-eq (x ∷ a) [] h = cc
+same-eq (x ∷ a) (y ∷ b) h =
+    rw (eqb-true x y (and-first (eqb x y) (same a b) h), same-eq a b (and-second (eqb x y) (same a b) h))
+
+pub same-self : (a : List ℕ) → same a a ≡ true
+unfolding same
+same-self [] = refl
+same-self (x ∷ a) = rw (eq-eqb x x refl, same-self a)
+
+pub other-length : (a b : List ℕ) → (length a ≡ length b → ⊥) → same a b ≡ false
+unfolding same
+other-length [] [] h = absurd (h refl)
+other-length [] (y ∷ b) h = refl
+other-length (x ∷ a) [] h = refl
+other-length (x ∷ a) (y ∷ b) h = and-right (eqb x y) (same a b) (other-length a b (λ e. h (ap suc e)))
+
+pub same-step : (a b : List ℕ) (i : ℕ) → i < length a → i < length b
+    → same (drop i a) (drop i b) ≡ (eqb (getD a i 0) (getD b i 0) && same (drop (i + 1) a) (drop (i + 1) b))
+unfolding same
+same-step a b i h k = rw (add-one i, drop-cons a i 0 h, drop-cons b i 0 k)
+
+-- ---- digits, and the number that they stand for
+
+hex-more : (l : List ℕ) (n : ℕ) → n < length l → allHex (take (suc n) l) ≡ (allHex (take n l) && ltb (hexDigit (getD l n 0)) 16)
+unfolding allHex
+hex-more [] n h = absurd (omega arith)
+hex-more (x ∷ l) zero h = and-true (ltb (hexDigit x) 16)
+hex-more (x ∷ l) (suc n) h =
+    ap (λ (b : Bool). ltb (hexDigit x) 16 && b) (hex-more l n (omega arith))
+    ∙ and-assoc (ltb (hexDigit x) 16) (allHex (take n l)) (ltb (hexDigit (getD l n 0)) 16)
+
+-- one digit more
+pub hex-go : (l : List ℕ) (n : ℕ) → n < length l → allHex (take n l) ≡ true → hexDigit (getD l n 0) < 16 → allHex (take (n + 1) l) ≡ true
+hex-go l n h e d = rw (add-one n, hex-more l n h, e, lt-ltb _ _ d)
+
+-- what some digits say of each of them
+pub hex-at : (l : List ℕ) (n i : ℕ) → allHex (take n l) ≡ true → i < n → i < length l → hexDigit (getD l i 0) < 16
+unfolding allHex
+hex-at [] n i e h k = absurd (omega arith)
+hex-at (x ∷ l) zero i e h k = absurd (omega arith)
+hex-at (x ∷ l) (suc n) zero e h k = ltb-true (hexDigit x) 16 (and-first (ltb (hexDigit x) 16) (allHex (take n l)) e)
+hex-at (x ∷ l) (suc n) (suc i) e h k = hex-at l n i (and-second (ltb (hexDigit x) 16) (allHex (take n l)) e) (omega arith) (omega arith)
+
+number-suc : (m : ℕ) (l : List ℕ) (n : ℕ) → n < length l → number m (take (suc n) l) ≡ 16 * number m (take n l) + hexDigit (getD l n 0)
+unfolding number
+number-suc m [] n h = absurd (omega arith)
+number-suc m (x ∷ l) zero h = refl
+number-suc m (x ∷ l) (suc n) h = number-suc (16 * m + hexDigit x) l n (omega arith)
+
+number-more : (l : List ℕ) (n : ℕ) → n < length l → number 0 (take (n + 1) l) ≡ 16 * number 0 (take n l) + hexDigit (getD l n 0)
+number-more l n h = rw (add-one n) (number-suc 0 l n h)
+
+number-below : (l : List ℕ) (n : ℕ) → n ≤ length l → allHex (take n l) ≡ true → number 0 (take n l) < 16 ^ n
+unfolding number
+number-below l zero h e = lit< tt
+number-below l (suc n) h e =
+    let more = and-first (allHex (take n l)) (ltb (hexDigit (getD l n 0)) 16) in
+    let f = sym (hex-more l n h) ∙ e in
+    let d : hexDigit (getD l n 0) < 16 = ltb-true _ _ (and-second (allHex (take n l)) (ltb (hexDigit (getD l n 0)) 16) f) in
+    let b : number 0 (take n l) < 16 ^ n = number-below l n (omega arith) (more f) in
+    rw (number-suc 0 l n h, pow-succ' 16 n) (omega arith)
+
+number-fits : (l : List ℕ) (n : ℕ) → n ≤ length l → n ≤ 8 → allHex (take n l) ≡ true → number 0 (take n l) < 2 ^ 32
+number-fits l n h k e = lt-of-lt-of-le (number-below l n h e) (pow-le-pow-right {n = 16} (lit< tt) k)
+
+-- a part of some digits is digits
+pub hex-part : (l : List ℕ) (n i k : ℕ) → allHex (take n l) ≡ true → i + k ≤ n → allHex (take k (drop i l)) ≡ true
+unfolding allHex
+hex-part l n i zero e h = refl
+hex-part [] n zero (suc k) e h = refl
+hex-part [] n (suc i) (suc k) e h = refl
+hex-part (x ∷ l) zero i (suc k) e h = absurd (omega arith)
+hex-part (x ∷ l) (suc n) zero (suc k) e h =
+    rw (and-first (ltb (hexDigit x) 16) (allHex (take n l)) e) (hex-part l n zero k (and-second (ltb (hexDigit x) 16) (allHex (take n l)) e) (omega arith))
+hex-part (x ∷ l) (suc n) (suc i) (suc k) e h =
+    hex-part l n i (suc k) (and-second (ltb (hexDigit x) 16) (allHex (take n l)) e) (omega arith)
+
+-- the number of some digits of a text, one digit more: eight digits fit a word
+module _ (text : List ℕ) (at k j : ℕ) (h : at + k ≤ length text) (i : j < k) where
+  pub number-next : number 0 (take (j + 1) (drop at text)) ≡ 16 * number 0 (take j (drop at text)) + hexDigit (getD text (at + j) 0)
+  number-next =
+      let n : j < length (drop at text) = simp length-drop (omega arith) in
+      rw (number-more (drop at text) j n, getD-drop)
+
+  pub number-room : k ≤ 8 → allHex (take k (drop at text)) ≡ true → 16 * number 0 (take j (drop at text)) + hexDigit (getD text (at + j) 0) < 2 ^ 32
+  number-room w e =
+      let n : j + 1 ≤ length (drop at text) = simp length-drop (omega arith) in
+      rw (← number-next) (number-fits (drop at text) (j + 1) n (omega arith) (hex-part (drop at text) k 0 (j + 1) e (omega arith)))
+
+-- ---- a line of n digits
+
+-- where there is text enough, it is n digits and then a newline
+digits-line : (n : ℕ) (l : List ℕ) → n < length l → digitsLine n (take (n + 1) l) ≡ (allHex (take n l) && eqb (getD l n 0) newline)
+unfolding digitsLine same
+digits-line n l h =
+    rw (
+      take-take n (n + 1) l (omega arith),
+      add-one n,
+      take-suc l n 0 h,
+      drop-at (take n l) (getD l n 0 ∷ []) n (length-take-le n l (omega arith)),
+    )
+    (ap (λ (b : Bool). allHex (take n l) && b) (and-true (eqb (getD l n 0) newline)))
+
+module _ (n : ℕ) (text : List ℕ) (at : ℕ) where
+  pub digits-short : length text - at ≤ n → digitsAt n text at ≡ false
+  unfolding digitsAt digitsLine same
+  digits-short h =
+      let l = drop at text in
+      let k : length (take (n + 1) l) ≤ n = simp (length-take, length-drop) (omega arith) in
+      rw (drop-of-length-le (take (n + 1) l) k) (and-right (allHex (take n (take (n + 1) l))) false refl)
+
+  pub digits-last : at ≤ length text → n < length text - at → allHex (take n (drop at text)) ≡ true
+      → digitsAt n text at ≡ eqb (getD text (at + n) 0) newline
+  unfolding digitsAt
+  digits-last g h e =
+      let k : n < length (drop at text) = simp length-drop (omega arith) in
+      rw (digits-line n (drop at text) k, e, getD-drop at text n 0)
+
+  pub digits-other : at ≤ length text → n < length text - at → (j : ℕ) → j < n → 15 < hexDigit (getD text (at + j) 0) → digitsAt n text at ≡ false
+  unfolding digitsAt
+  digits-other g h j i d =
+      let k : n < length (drop at text) = simp length-drop (omega arith) in
+      digits-line n (drop at text) k ∙ and-left _ _ (none (allHex (take n (drop at text))) refl)
+    where
+      none : (b : Bool) → allHex (take n (drop at text)) ≡ b → b ≡ false
+      none true e =
+          let k : j < length (drop at text) = simp length-drop (omega arith) in
+          let f : hexDigit (getD text (at + j) 0) < 16 = rw getD-drop at (hex-at (drop at text) n j e i k) in absurd (omega arith)
+      none false e = refl

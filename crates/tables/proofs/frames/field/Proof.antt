@@ -1,0 +1,80 @@
+-- The invariant: v is the number of the digits passed. Assumes nothing.
+use mathlib.Core.Path.{_≡_, refl, sym, ap, _∙_}
+use Prim.Native.Nat.{ℕ, _+_, _*_, _-_, _≤_, _<_, _^_}
+use native.Mathlib.Omega.{arith}
+use lib.ListN.{length, take, drop, getD}
+use Rattle.tables.specs.Lines.{number, field, hexDigit}
+use Rattle.tables.proofs.Lines.{number-next, number-room}
+use Rattle.tables.proofs.frames.field.Statement.{statement}
+use Rattle.tables.proofs.frames.field.Tie as tie
+
+abbrev Inv-loop : tie.InvT-loop
+Inv-loop text at k v₀ j₀ v j = (j ≤ k) × (v ≡ number 0 (take j (drop at text)))
+
+abbrev μ-loop : tie.MeasureT-loop
+μ-loop text at k v₀ j₀ v j = k - j
+
+loop-holds : tie.Need-loop-holds Inv-loop μ-loop
+unfolding number
+loop-holds c = (omega arith, refl)
+
+room : (c : tie.In-loop Inv-loop μ-loop)
+    → let l = c .before .loop in
+    let g = c .before .before .before .args in
+    16 * l .v + hexDigit (getD (g .text .now) (g .at + l .j) 0) < 2 ^ 32
+room c =
+    let l = c .before .loop in
+    let g = c .before .before .before .args in
+    rw (l .inv .1)
+    (number-room (g .text .now) (g .at) (g .k) (l .j) (omega arith) (omega arith) (omega arith) (c .before .before .before .pre .2))
+
+mul-v : tie.Need-mul-v Inv-loop μ-loop
+mul-v c = omega (arith, room c)
+
+add-digit : tie.Need-add-digit Inv-loop μ-loop
+add-digit c = omega arith
+
+shared-slice-read-digit : tie.Need-shared-slice-read-digit Inv-loop μ-loop
+shared-slice-read-digit c = omega arith
+
+digit-requires : tie.Need-digit-requires Inv-loop μ-loop
+digit-requires c κs = tt
+
+add-v : tie.Need-add-v Inv-loop μ-loop
+add-v c = omega (arith, room (c .before .before))
+
+add-j : tie.Need-add-j Inv-loop μ-loop
+add-j c = omega arith
+
+loop-less : tie.Need-loop-less Inv-loop μ-loop
+loop-less c = omega arith
+
+loop-again : tie.Need-loop-again Inv-loop μ-loop
+loop-again c =
+    let l = c .before .before .before .loop in
+    let g = c .before .before .before .before .before .args in
+    (omega arith, rw (number-next (g .text .now) (g .at) (g .k) (l .j) (omega arith) (omega arith)) (cc))
+
+returns : tie.Need-returns Inv-loop μ-loop
+unfolding field
+returns c =
+    let l = c .before .loop in
+    let e : l .j ≡ c .before .before .before .args .k = omega arith in
+    rw e at (l .inv .1)
+
+pub field-spec : {M : Type 1} → statement M
+field-spec =
+    tie.close
+    (tie.spec
+    Inv-loop
+    μ-loop
+    loop-holds
+    mul-v
+    add-digit
+    shared-slice-read-digit
+    digit-requires
+    add-v
+    add-j
+    loop-less
+    loop-again
+    returns)

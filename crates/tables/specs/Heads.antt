@@ -1,0 +1,29 @@
+-- What stands at a place of a text: the end line, a line of digits, a frame. Assumes nothing.
+use mathlib.Core.Bool.{Bool}
+use mathlib.Core.List.{List, [], _∷_}
+use Prim.Native.Nat.{ℕ, _+_}
+use lib.ListN.{take, drop}
+use Rattle.tables.specs.Lines.{same, endLine, digitsLine}
+use Rattle.tables.specs.Frames.{Frame, opens, gives, ends, malformed, framesOf}
+use Rattle.tables.specs.declared.frames.Line.{Line}
+use Rattle.tables.specs.declared.frames.Line.the-variants.{Opens, Gives, Ends, Malformed}
+
+-- the end line stands at place p
+unfoldable pub endAt : List ℕ → ℕ → Bool
+endAt text p = same (take 3 (drop p text)) endLine
+
+-- a line of n digits stands at place p
+unfoldable pub digitsAt : ℕ → List ℕ → ℕ → Bool
+digitsAt n text p = digitsLine n (take (n + 1) (drop p text))
+
+-- the first of some frames, without its words
+unfoldable pub headLine : List Frame → Line
+headLine [] = Malformed
+headLine (opens b ws ∷ fs) = Opens b
+headLine (gives b ws ∷ fs) = Gives b
+headLine (ends ∷ fs) = Ends
+headLine (malformed ∷ fs) = Malformed
+
+-- the line that begins at place p
+unfoldable pub lineAt : List ℕ → ℕ → Line
+lineAt text p = headLine (framesOf (drop p text))
