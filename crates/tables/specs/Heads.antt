@@ -4,7 +4,7 @@ use mathlib.Core.List.{List, [], _∷_}
 use Prim.Native.Nat.{ℕ, _+_}
 use lib.ListN.{take, drop}
 use Rattle.tables.specs.Lines.{same, endLine, digitsLine}
-use Rattle.tables.specs.Frames.{Frame, opens, gives, ends, malformed, framesOf}
+use Rattle.tables.specs.Frames.{Frame, opens, gives, ends, malformed, fourWords, framesOf}
 use Rattle.tables.specs.declared.frames.Line.{Line}
 use Rattle.tables.specs.declared.frames.Line.the-variants.{Opens, Gives, Ends, Malformed}
 
@@ -15,6 +15,10 @@ endAt text p = same (take 3 (drop p text)) endLine
 -- a line of n digits stands at place p
 unfoldable pub digitsAt : ℕ → List ℕ → ℕ → Bool
 digitsAt n text p = digitsLine n (take (n + 1) (drop p text))
+
+-- the four words of the frame that begins at place p
+abbrev pub wordsAt : List ℕ → ℕ → List ℕ
+wordsAt text p = fourWords (drop p text)
 
 -- the first of some frames, without its words
 unfoldable pub headLine : List Frame → Line

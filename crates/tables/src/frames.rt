@@ -84,3 +84,24 @@ pub fn field(text: &[u8], at: usize, k: usize) -> u32
     }
     v
 }
+
+// The line that begins at this place.
+pub fn line_at(text: &[u8], at: usize) -> Line
+    requires { ⌜ at ≤ length (now text) ⌝ }
+    ensures { λ r. ⌜ r ≡ lineAt (now (text .entry)) at ⌝ }
+{
+    if is_end(text, at) {
+        return Line::Ends;
+    }
+    if !is_digits_line(text, at, 36) {
+        return Line::Malformed;
+    }
+    let kind = field(text, at, 2);
+    if kind == 0 {
+        return Line::Opens(field(text, at + 2, 2));
+    }
+    if kind == 1 {
+        return Line::Gives(field(text, at + 2, 2));
+    }
+    Line::Malformed
+}

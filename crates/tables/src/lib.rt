@@ -3,6 +3,7 @@
 pub mod replies; // replies.rt: the numbers of the replies
 pub mod words; // words.rt: words that are 0
 pub mod frames; // frames.rt: the lines of a text
+pub mod reading; // reading.rt: the reader
 pub mod rows; // rows.rt: a row of a table, its family, and replies 4 to 7
 
 // A row, taken apart.

@@ -1,0 +1,101 @@
+-- Replies 2 and 3 over a text, a line at a time. Assumes nothing.
+use mathlib.Core.Path.{_≡_, refl, sym, ap, _∙_}
+use mathlib.Core.Bool.{Bool, true, false, _&&_, _||_, cond}
+use mathlib.Core.List.{List, [], _∷_}
+use Prim.Native.Nat.{ℕ, zero, suc, _+_, _-_, _≤_, _<_}
+use native.Mathlib.Omega.{arith}
+use lib.Dec.{ltb, eqb}
+use lib.ListN.{length, drop}
+use borrow.Author.Tests.{ltb-true, lt-ltb, le-ltb}
+use Rattle.tables.specs.Frames.{Frame, opens, gives, ends, malformed, framesOf}
+use Rattle.tables.specs.Heads.{headLine, lineAt, wordsAt}
+use Rattle.tables.specs.Reader.{told, noneLeft, inPlace}
+use Rattle.tables.specs.declared.Told.{Told}
+use Rattle.tables.specs.declared.frames.Line.the-variants.{Opens, Gives, Ends, Malformed}
+use Rattle.tables.proofs.Lines.{and-first, and-second}
+use Rattle.tables.proofs.Heads.{framed, ended, no-frames, some-frames}
+
+-- the tests of an opening line and of a row's
+abbrev pub mayOpen : ℕ → ℕ → ℕ → Bool
+mayOpen b a i = eqb b a && ltb a 16 && (eqb a 0 || ltb 0 i)
+
+abbrev pub mayGive : ℕ → ℕ → ℕ → Bool
+mayGive b a i = eqb (b + 1) a && ltb i 32
+
+pub open-room : (b a i : ℕ) → mayOpen b a i ≡ true → a < 16
+open-room b a i h =
+    ltb-true a 16 (and-second (eqb b a) (ltb a 16) (and-first (eqb b a && ltb a 16) (eqb a 0 || ltb 0 i) h))
+
+pub give-room : (b a i : ℕ) → mayGive b a i ≡ true → i < 32
+give-room b a i h = ltb-true i 32 (and-second (eqb (b + 1) a) (ltb i 32) h)
+
+module _ (n a i b : ℕ) (ws : List ℕ) (fs : List Frame) where
+  place-open : mayOpen b a i ≡ true → inPlace n a i (opens b ws ∷ fs) ≡ inPlace (n + 1) (a + 1) 0 fs
+  unfolding inPlace
+  place-open h = rw (h, inPlace)
+
+  place-open-not : mayOpen b a i ≡ false → inPlace n a i (opens b ws ∷ fs) ≡ told 3 n
+  unfolding inPlace
+  place-open-not h = rw (h, inPlace)
+
+  place-give : mayGive b a i ≡ true → inPlace n a i (gives b ws ∷ fs) ≡ inPlace (n + 1) a (i + 1) fs
+  unfolding inPlace
+  place-give h = rw (h, inPlace)
+
+  place-give-not : mayGive b a i ≡ false → inPlace n a i (gives b ws ∷ fs) ≡ told 3 n
+  unfolding inPlace
+  place-give-not h = rw (h, inPlace)
+
+none-after : (text : List ℕ) (q : ℕ) → length text ≤ q → noneLeft (framesOf (drop q text)) ≡ true
+none-after text q h = ap noneLeft (no-frames text q h)
+
+some-after : (text : List ℕ) (q : ℕ) → q < length text → noneLeft (framesOf (drop q text)) ≡ false
+some-after text q h = go (framesOf (drop q text)) (some-frames text q h)
+  where
+    go : (fs : List Frame) → (fs ≡ [] → ⊥) → noneLeft fs ≡ false
+    go [] k = absurd (k refl)
+    go (f ∷ fs) k = refl
+
+-- at place p of a text, by the line that stands there
+module _ (text : List ℕ) (p : ℕ) (within : p ≤ length text) (n a i : ℕ) where
+  module _ (b : ℕ) where
+    pub opened : lineAt text p ≡ Opens b → mayOpen b a i ≡ true → inPlace n a i (framesOf (drop p text)) ≡ inPlace (n + 1) (a + 1) 0 (framesOf (drop (p + 37) text))
+    opened e h = ap (inPlace n a i) (framed text p within (Opens b) e refl .frames) ∙ place-open n a i b (wordsAt text p) (framesOf (drop (p + 37) text)) h
+
+    pub opened-not : lineAt text p ≡ Opens b → mayOpen b a i ≡ false → inPlace n a i (framesOf (drop p text)) ≡ told 3 n
+    opened-not e h = ap (inPlace n a i) (framed text p within (Opens b) e refl .frames) ∙ place-open-not n a i b (wordsAt text p) (framesOf (drop (p + 37) text)) h
+
+    pub given : lineAt text p ≡ Gives b → mayGive b a i ≡ true → inPlace n a i (framesOf (drop p text)) ≡ inPlace (n + 1) a (i + 1) (framesOf (drop (p + 37) text))
+    given e h = ap (inPlace n a i) (framed text p within (Gives b) e refl .frames) ∙ place-give n a i b (wordsAt text p) (framesOf (drop (p + 37) text)) h
+
+    pub given-not : lineAt text p ≡ Gives b → mayGive b a i ≡ false → inPlace n a i (framesOf (drop p text)) ≡ told 3 n
+    given-not e h = ap (inPlace n a i) (framed text p within (Gives b) e refl .frames) ∙ place-give-not n a i b (wordsAt text p) (framesOf (drop (p + 37) text)) h
+
+  at-end : lineAt text p ≡ Ends
+      → inPlace n a i (framesOf (drop p text)) ≡ cond (ltb 0 i) (cond (noneLeft (framesOf (drop (p + 3) text))) (told 0 0) (told 3 (n + 1))) (told 3 n)
+  unfolding inPlace
+  at-end e = ap (inPlace n a i) (ended text p e)
+
+  pub ended-early : lineAt text p ≡ Ends → i ≡ 0 → inPlace n a i (framesOf (drop p text)) ≡ told 3 n
+  ended-early e z = rw (at-end e, z)
+
+  pub ended-before : lineAt text p ≡ Ends → 0 < i → p + 3 < length text → inPlace n a i (framesOf (drop p text)) ≡ told 3 (n + 1)
+  ended-before e z h = rw (at-end e, lt-ltb _ _ z, some-after text (p + 3) h)
+
+  pub ended-well : lineAt text p ≡ Ends → 0 < i → length text ≤ p + 3 → inPlace n a i (framesOf (drop p text)) ≡ told 0 0
+  ended-well e z h = rw (at-end e, lt-ltb _ _ z, none-after text (p + 3) h)
+
+  pub broken : lineAt text p ≡ Malformed → p < length text → inPlace n a i (framesOf (drop p text)) ≡ told 2 n
+  unfolding lineAt headLine inPlace
+  broken e h = go (framesOf (drop p text)) e (some-frames text p h)
+    where
+      go : (fs : List Frame) → headLine fs ≡ Malformed → (fs ≡ [] → ⊥) → inPlace n a i fs ≡ told 2 n
+      go [] e k = absurd (k refl)
+      go (opens b ws ∷ fs) e k = let z : _≡_ {A = ℕ} 0 1 = cc in absurd (omega arith)
+      go (gives b ws ∷ fs) e k = let z : _≡_ {A = ℕ} 0 1 = cc in absurd (omega arith)
+      go (ends ∷ fs) e k = let z : _≡_ {A = ℕ} 0 1 = cc in absurd (omega arith)
+      go (malformed ∷ fs) e k = refl
+
+  pub stopped : length text ≤ p → inPlace n a i (framesOf (drop p text)) ≡ told 3 n
+  unfolding inPlace
+  stopped h = ap (inPlace n a i) (no-frames text p h)
