@@ -2,3 +2,5 @@
 pub mod Writes
 pub mod Places
 pub mod Choices
+pub mod Steps
+pub mod Parts
