@@ -13,7 +13,8 @@ use Rattle.tables.specs.Frames.{Frame, opens, gives, ends, malformed, fo
 use Rattle.tables.specs.Heads.{endAt, digitsAt, wordsAt, headLine, lineAt}
 use Rattle.tables.specs.declared.frames.Line.{Line}
 use Rattle.tables.specs.declared.frames.Line.the-variants.{Opens, Gives, Ends, Malformed}
-use Rattle.tables.proofs.Lines.{and-first, and-second, same-eq, same-self, other-length, hex-part}
+use Rattle.tables.proofs.Passed.{and-1, and-2}
+use Rattle.tables.proofs.Lines.{same-eq, same-self, other-length, hex-part}
 
 not-both : _≡_ {A = Bool} true false → ⊥
 not-both e = let z : _≡_ {A = ℕ} 0 1 = cc in omega arith
@@ -56,17 +57,17 @@ lines-break : (l r : List ℕ) → allHex l ≡ true → lines (l ++ newline ∷
 unfolding lines allHex
 lines-break [] r h = refl
 lines-break (c ∷ l) r h =
-    lines-other c (l ++ newline ∷ r) (hex-newline c (ltb-true _ _ (and-first (ltb (hexDigit c) 16) (allHex l) h)))
-    ∙ ap (onto c) (lines-break l r (and-second (ltb (hexDigit c) 16) (allHex l) h))
+    lines-other c (l ++ newline ∷ r) (hex-newline c (ltb-true _ _ (and-1 (ltb (hexDigit c) 16) (allHex l) h)))
+    ∙ ap (onto c) (lines-break l r (and-2 (ltb (hexDigit c) 16) (allHex l) h))
 
 module _ (n : ℕ) (l : List ℕ) (h : digitsLine n l ≡ true) where
   line-hex : allHex (take n l) ≡ true
   unfolding digitsLine
-  line-hex = and-first (allHex (take n l)) (same (drop n l) (newline ∷ [])) h
+  line-hex = and-1 (allHex (take n l)) (same (drop n l) (newline ∷ [])) h
 
   line-end : drop n l ≡ newline ∷ []
   unfolding digitsLine
-  line-end = same-eq (drop n l) (newline ∷ []) (and-second (allHex (take n l)) (same (drop n l) (newline ∷ [])) h)
+  line-end = same-eq (drop n l) (newline ∷ []) (and-2 (allHex (take n l)) (same (drop n l) (newline ∷ [])) h)
 
   line-length : length l ≡ n + 1
   line-length = let e : length l - n ≡ 1 = sym (length-drop n l) ∙ ap length line-end in omega arith
@@ -208,7 +209,7 @@ module _ (text : List ℕ) (p : ℕ) where
 pub record Framed (text : List ℕ) (p : ℕ) (f : Frame) : Type 0 where
   pub frames : framesOf (drop p text) ≡ f ∷ framesOf (drop (p + 37) text)
   pub room : p + 37 ≤ length text
-  pub hex : allHex (take 36 (drop p text)) ≡ true
+  pub digits : digitsAt 36 text p ≡ true
 
 abbrev pub full : Line → Bool
 full (Opens a) = true
@@ -231,12 +232,12 @@ kind-frame k a ws = go (eqb k 0) (eqb k 1)
     go false false = refl
 
 module _ (text : List ℕ) (p : ℕ) where
-  pub digits-room : digitsAt 36 text p ≡ true → p ≤ length text → p + 37 ≤ length text
+  digits-room : digitsAt 36 text p ≡ true → p ≤ length text → p + 37 ≤ length text
   unfolding digitsAt
   digits-room h i =
       let w : 37 ≡ min 37 (length text - p) = simp (length-take, length-drop) at (sym (line-length 36 (take 37 (drop p text)) h)) in omega arith
 
-  pub digits-hex : digitsAt 36 text p ≡ true → allHex (take 36 (drop p text)) ≡ true
+  digits-hex : digitsAt 36 text p ≡ true → allHex (take 36 (drop p text)) ≡ true
   unfolding digitsAt
   digits-hex h = sym (ap allHex (take-take 36 37 (drop p text) (omega arith))) ∙ line-hex 36 (take 37 (drop p text)) h
 
@@ -258,7 +259,7 @@ module _ (text : List ℕ) (p : ℕ) where
                 (kind-frame (field text p 2) (field text (p + 2) 2) (wordsAt text p)
                 ∙ ap (λ (l : Line). frameWith l (wordsAt text p)) (sym (line-digits text p r) ∙ e));
             room = digits-room r i;
-            hex = digits-hex r;
+            digits = r;
           }
 
   pub end-room : endAt text p ≡ true → p ≤ length text → p + 3 ≤ length text
@@ -289,8 +290,10 @@ module _ (text : List ℕ) (p : ℕ) where
   pub ended-room : p ≤ length text → lineAt text p ≡ Ends → p + 3 ≤ length text
   ended-room i e = end-room (ends-at e) i
 
--- what reading such a field asks
-pub field-asks : (text : List ℕ) (p q i k : ℕ) → q ≡ p + i → p + 37 ≤ length text → allHex (take 36 (drop p text)) ≡ true → i + k ≤ 36 → k ≤ 8
+-- what reading a field of such a line asks
+pub field-asks : (text : List ℕ) (p q i k : ℕ) → q ≡ p + i → p ≤ length text → digitsAt 36 text p ≡ true → i + k ≤ 36 → k ≤ 8
     → (q + k ≤ length text) × (k ≤ 8) × (allHex (take k (drop q text)) ≡ true)
 field-asks text p q i k e r x h j =
-    (omega arith, j, ap (λ (l : List ℕ). allHex (take k l)) (ap (λ (n : ℕ). drop n text) e ∙ sym (drop-drop i p text)) ∙ hex-part (drop p text) 36 i k x h)
+    let w = digits-room text p x r in
+    let d : drop q text ≡ drop i (drop p text) = ap (λ (n : ℕ). drop n text) e ∙ sym (drop-drop i p text) in
+    (omega arith, j, ap (λ (l : List ℕ). allHex (take k l)) d ∙ hex-part (drop p text) 36 i k (digits-hex text p x) h)

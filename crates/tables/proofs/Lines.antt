@@ -13,16 +13,9 @@ use borrow.Author.Tests.{eqb-true, eq-eqb, ne-eqb, ltb-true, lt-ltb}
 use Rattle.tables.specs.Lines.{same, newline, onto, lines, hexDigit, allHex, number, digitsLine}
 use Rattle.tables.specs.Heads.{digitsAt}
 use Rattle.tables.proofs.Tests.{and-left, and-right}
+use Rattle.tables.proofs.Passed.{and-1, and-2}
 
-pub and-first : (a b : Bool) → (a && b) ≡ true → a ≡ true
-and-first true b h = refl
-and-first false b h = h
-
-pub and-second : (a b : Bool) → (a && b) ≡ true → b ≡ true
-and-second true b h = h
-and-second false b h = cc
-
-pub and-assoc : (a b c : Bool) → (a && (b && c)) ≡ ((a && b) && c)
+and-assoc : (a b c : Bool) → (a && (b && c)) ≡ ((a && b) && c)
 and-assoc true b c = refl
 and-assoc false b c = refl
 
@@ -38,7 +31,7 @@ same-eq [] [] h = refl
 same-eq [] (y ∷ b) h = cc
 same-eq (x ∷ a) [] h = cc
 same-eq (x ∷ a) (y ∷ b) h =
-    rw (eqb-true x y (and-first (eqb x y) (same a b) h), same-eq a b (and-second (eqb x y) (same a b) h))
+    rw (eqb-true x y (and-1 (eqb x y) (same a b) h), same-eq a b (and-2 (eqb x y) (same a b) h))
 
 pub same-self : (a : List ℕ) → same a a ≡ true
 unfolding same
@@ -76,8 +69,8 @@ pub hex-at : (l : List ℕ) (n i : ℕ) → allHex (take n l) ≡ true → i < n
 unfolding allHex
 hex-at [] n i e h k = absurd (omega arith)
 hex-at (x ∷ l) zero i e h k = absurd (omega arith)
-hex-at (x ∷ l) (suc n) zero e h k = ltb-true (hexDigit x) 16 (and-first (ltb (hexDigit x) 16) (allHex (take n l)) e)
-hex-at (x ∷ l) (suc n) (suc i) e h k = hex-at l n i (and-second (ltb (hexDigit x) 16) (allHex (take n l)) e) (omega arith) (omega arith)
+hex-at (x ∷ l) (suc n) zero e h k = ltb-true (hexDigit x) 16 (and-1 (ltb (hexDigit x) 16) (allHex (take n l)) e)
+hex-at (x ∷ l) (suc n) (suc i) e h k = hex-at l n i (and-2 (ltb (hexDigit x) 16) (allHex (take n l)) e) (omega arith) (omega arith)
 
 number-suc : (m : ℕ) (l : List ℕ) (n : ℕ) → n < length l → number m (take (suc n) l) ≡ 16 * number m (take n l) + hexDigit (getD l n 0)
 unfolding number
@@ -92,9 +85,9 @@ number-below : (l : List ℕ) (n : ℕ) → n ≤ length l → allHex (take n l)
 unfolding number
 number-below l zero h e = lit< tt
 number-below l (suc n) h e =
-    let more = and-first (allHex (take n l)) (ltb (hexDigit (getD l n 0)) 16) in
+    let more = and-1 (allHex (take n l)) (ltb (hexDigit (getD l n 0)) 16) in
     let f = sym (hex-more l n h) ∙ e in
-    let d : hexDigit (getD l n 0) < 16 = ltb-true _ _ (and-second (allHex (take n l)) (ltb (hexDigit (getD l n 0)) 16) f) in
+    let d : hexDigit (getD l n 0) < 16 = ltb-true _ _ (and-2 (allHex (take n l)) (ltb (hexDigit (getD l n 0)) 16) f) in
     let b : number 0 (take n l) < 16 ^ n = number-below l n (omega arith) (more f) in
     rw (number-suc 0 l n h, pow-succ' 16 n) (omega arith)
 
@@ -109,9 +102,9 @@ hex-part [] n zero (suc k) e h = refl
 hex-part [] n (suc i) (suc k) e h = refl
 hex-part (x ∷ l) zero i (suc k) e h = absurd (omega arith)
 hex-part (x ∷ l) (suc n) zero (suc k) e h =
-    rw (and-first (ltb (hexDigit x) 16) (allHex (take n l)) e) (hex-part l n zero k (and-second (ltb (hexDigit x) 16) (allHex (take n l)) e) (omega arith))
+    rw (and-1 (ltb (hexDigit x) 16) (allHex (take n l)) e) (hex-part l n zero k (and-2 (ltb (hexDigit x) 16) (allHex (take n l)) e) (omega arith))
 hex-part (x ∷ l) (suc n) (suc i) (suc k) e h =
-    hex-part l n i (suc k) (and-second (ltb (hexDigit x) 16) (allHex (take n l)) e) (omega arith)
+    hex-part l n i (suc k) (and-2 (ltb (hexDigit x) 16) (allHex (take n l)) e) (omega arith)
 
 -- the number of some digits of a text, one digit more: eight digits fit a word
 module _ (text : List ℕ) (at k j : ℕ) (h : at + k ≤ length text) (i : j < k) where

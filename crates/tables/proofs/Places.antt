@@ -3,16 +3,18 @@ use mathlib.Core.Path.{_≡_, refl, sym, ap, _∙_}
 use mathlib.Core.Bool.{Bool, true, false, _&&_, _||_, cond}
 use mathlib.Core.List.{List, [], _∷_}
 use Prim.Native.Nat.{ℕ, zero, suc, _+_, _-_, _≤_, _<_}
+use native.Mathlib.Numerals.{one-add}
 use native.Mathlib.Omega.{arith}
 use lib.Dec.{ltb, eqb}
 use lib.ListN.{length, drop}
 use borrow.Author.Tests.{ltb-true, lt-ltb, le-ltb}
 use Rattle.tables.specs.Frames.{Frame, opens, gives, ends, malformed, framesOf}
 use Rattle.tables.specs.Heads.{headLine, lineAt, wordsAt}
-use Rattle.tables.specs.Reader.{told, noneLeft, inPlace}
+use Rattle.tables.specs.Reader.{told, noneLeft, inPlace, rowsNext}
 use Rattle.tables.specs.declared.Told.{Told}
+use Rattle.tables.specs.declared.frames.Line.{Line}
 use Rattle.tables.specs.declared.frames.Line.the-variants.{Opens, Gives, Ends, Malformed}
-use Rattle.tables.proofs.Lines.{and-first, and-second}
+use Rattle.tables.proofs.Passed.{and-1, and-2}
 use Rattle.tables.proofs.Heads.{framed, ended, no-frames, some-frames}
 
 -- the tests of an opening line and of a row's
@@ -24,10 +26,10 @@ mayGive b a i = eqb (b + 1) a && ltb i 32
 
 pub open-room : (b a i : ℕ) → mayOpen b a i ≡ true → a < 16
 open-room b a i h =
-    ltb-true a 16 (and-second (eqb b a) (ltb a 16) (and-first (eqb b a && ltb a 16) (eqb a 0 || ltb 0 i) h))
+    ltb-true a 16 (and-2 (eqb b a) (ltb a 16) (and-1 (eqb b a && ltb a 16) (eqb a 0 || ltb 0 i) h))
 
 pub give-room : (b a i : ℕ) → mayGive b a i ≡ true → i < 32
-give-room b a i h = ltb-true i 32 (and-second (eqb (b + 1) a) (ltb i 32) h)
+give-room b a i h = ltb-true i 32 (and-2 (eqb (b + 1) a) (ltb i 32) h)
 
 module _ (n a i b : ℕ) (ws : List ℕ) (fs : List Frame) where
   place-open : mayOpen b a i ≡ true → inPlace n a i (opens b ws ∷ fs) ≡ inPlace (n + 1) (a + 1) 0 fs
@@ -99,3 +101,31 @@ module _ (text : List ℕ) (p : ℕ) (within : p ≤ length text) (n a i : ℕ) 
   pub stopped : length text ≤ p → inPlace n a i (framesOf (drop p text)) ≡ told 3 n
   unfolding inPlace
   stopped h = ap (inPlace n a i) (no-frames text p h)
+
+-- ---- the rows that come next
+
+abbrev pub isGives : Line → Bool
+isGives (Opens b) = false
+isGives (Gives b) = true
+isGives Ends = false
+isGives Malformed = false
+
+module _ (text : List ℕ) (p : ℕ) (within : p ≤ length text) where
+  pub row-next : (b : ℕ) → lineAt text p ≡ Gives b → rowsNext (framesOf (drop p text)) ≡ 1 + rowsNext (framesOf (drop (p + 37) text))
+  unfolding rowsNext
+  row-next b e = ap rowsNext (framed text p within (Gives b) e refl .frames) ∙ sym (one-add _)
+
+  pub no-row-next : isGives (lineAt text p) ≡ false → rowsNext (framesOf (drop p text)) ≡ 0
+  unfolding lineAt headLine rowsNext
+  no-row-next e = go (framesOf (drop p text)) e
+    where
+      go : (fs : List Frame) → isGives (headLine fs) ≡ false → rowsNext fs ≡ 0
+      go [] e = refl
+      go (opens b ws ∷ fs) e = refl
+      go (gives b ws ∷ fs) e = let z : _≡_ {A = ℕ} 0 1 = cc in absurd (omega arith)
+      go (ends ∷ fs) e = refl
+      go (malformed ∷ fs) e = refl
+
+  pub no-row-left : length text ≤ p → rowsNext (framesOf (drop p text)) ≡ 0
+  unfolding rowsNext
+  no-row-left h = ap rowsNext (no-frames text p h)

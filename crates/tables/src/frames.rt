@@ -105,3 +105,11 @@ pub fn line_at(text: &[u8], at: usize) -> Line
     }
     Line::Malformed
 }
+
+// The word in the eight digits from digit i of the line at this place.
+pub fn word(text: &[u8], at: usize, i: usize) -> u32
+    requires { ⌜ (at ≤ length (now text)) × (digitsAt 36 (now text) at ≡ true) × (i + 8 ≤ 36) ⌝ }
+    ensures { λ r. ⌜ r ≡ Lines.field (drop at (now (text .entry))) i 8 ⌝ }
+{
+    field(text, at + i, 8)
+}

@@ -3,6 +3,8 @@
 pub mod replies; // replies.rt: the numbers of the replies
 pub mod words; // words.rt: words that are 0
 pub mod frames; // frames.rt: the lines of a text
+pub mod placing; // placing.rt: replies 2 and 3
+pub mod loading; // loading.rt: frames into the words of a table
 pub mod reading; // reading.rt: the reader
 pub mod rows; // rows.rt: a row of a table, its family, and replies 4 to 7
 

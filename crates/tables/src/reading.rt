@@ -1,108 +1,48 @@
 // The reader of frames. The text is passed for replies 2 and 3, then for 4 to 7, and only then is the table written.
-use crate::Told;
+use crate::Row;
 use crate::frames::Line;
 use crate::frames::line_at;
-use crate::replies::ACCEPTED;
-use crate::replies::MALFORMED;
-use crate::replies::OUT_OF_PLACE;
+use crate::frames::word;
+use crate::rows::row_of;
 ghost use mathlib.Core.Path.{_≡_};
-ghost use mathlib.Core.Bool.{_&&_, _||_};
-ghost use Prim.Native.Nat.{_+_};
-ghost use lib.Dec.{eqb, ltb};
+ghost use mathlib.Core.Bool.{true};
+ghost use Prim.Native.Nat.{_≤_};
+ghost use lib.ListN.{length, drop};
 ghost use Rattle.tables.specs.Frames.{framesOf};
-ghost use Rattle.tables.specs.Reader.{inPlace};
+ghost use Rattle.tables.specs.Heads.{digitsAt, wordsAt};
+ghost use Rattle.tables.specs.Reader.{rowsNext, rowIn};
 
-// Whether agent b may be opened after a agents, the last of which has i rows.
-fn may_open(b: u32, a: u32, i: u32) -> bool
-    ensures { λ r. ⌜ r ≡ (eqb b a && ltb a 16 && (eqb a 0 || ltb 0 i)) ⌝ }
+// The rows that come before the next agent or the end.
+fn rows_next(text: &[u8], at: usize) -> u32
+    requires { ⌜ (at ≤ length (now text)) × (rowsNext (framesOf (drop at (now text))) ≤ 32) ⌝ }
+    ensures { λ r. ⌜ r ≡ rowsNext (framesOf (drop at (now (text .entry)))) ⌝ }
 {
-    if b != a {
-        return false;
-    }
-    if 16 <= a {
-        return false;
-    }
-    if a == 0 {
-        return true;
-    }
-    0 < i
-}
-
-// Whether agent b may be given a row after a agents, the last of which has i rows.
-fn may_give(b: u32, a: u32, i: u32) -> bool
-    ensures { λ r. ⌜ r ≡ (eqb (b + 1) a && ltb i 32) ⌝ }
-{
-    if a == 0 {
-        return false;
-    }
-    if b != a - 1 {
-        return false;
-    }
-    i < 32
-}
-
-// Replies 2 and 3, or 0. At most 16 agents of 32 rows are passed, so the lines can be counted.
-fn in_place(text: &[u8]) -> Told
-    ensures { λ r. ⌜ r ≡ inPlace 1 0 0 (framesOf (now (text .entry))) ⌝ }
-{
-    let mut p = 0;
-    let mut n = 1;
-    let mut a = 0;
-    let mut i = 0;
+    let mut p = at;
+    let mut c = 0;
     while p < text.len() {
         let line = line_at(text, p);
         match line {
-            Line::Opens(b) => {
-                if !may_open(b, a, i) {
-                    return Told {
-                        reply: OUT_OF_PLACE,
-                        line: n,
-                    };
-                }
-                a += 1;
-                i = 0;
-                n += 1;
+            Line::Gives(_) => {
+                c += 1;
                 p += 37;
             }
-            Line::Gives(b) => {
-                if !may_give(b, a, i) {
-                    return Told {
-                        reply: OUT_OF_PLACE,
-                        line: n,
-                    };
-                }
-                i += 1;
-                n += 1;
-                p += 37;
-            }
-            Line::Ends => {
-                if i == 0 {
-                    return Told {
-                        reply: OUT_OF_PLACE,
-                        line: n,
-                    };
-                }
-                if p + 3 < text.len() {
-                    return Told {
-                        reply: OUT_OF_PLACE,
-                        line: n + 1,
-                    };
-                }
-                return Told {
-                    reply: ACCEPTED,
-                    line: 0,
-                };
-            }
-            Line::Malformed => {
-                return Told {
-                    reply: MALFORMED,
-                    line: n,
-                };
+            _ => {
+                return c;
             }
         }
     }
-    Told {
-        reply: OUT_OF_PLACE,
-        line: n,
-    }
+    c
+}
+
+// The row that the line at this place gives.
+fn row_in(text: &[u8], at: usize) -> Row
+    requires { ⌜ (at ≤ length (now text)) × (digitsAt 36 (now text) at ≡ true) ⌝ }
+    ensures { λ r. ⌜ r ≡ rowIn (wordsAt (now (text .entry)) at) ⌝ }
+{
+    row_of(
+        word(text, at, 4),
+        word(text, at, 12),
+        word(text, at, 20),
+        word(text, at, 28),
+    )
 }

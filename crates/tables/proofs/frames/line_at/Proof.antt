@@ -1,4 +1,4 @@
-use mathlib.Core.Path.{_≡_, sym, ap, _∙_}
+use mathlib.Core.Path.{_≡_, refl, sym, _∙_}
 use mathlib.Core.Bool.{true}
 use Prim.Native.Nat.{_+_}
 use native.Mathlib.Omega.{arith}
@@ -6,7 +6,7 @@ use borrow.Author.Needs.{needs}
 use borrow.Author.Tests.{eq-eqb, ne-eqb, not-true, not-false}
 use Rattle.tables.specs.Heads.{digitsAt, lineAt}
 use Rattle.tables.specs.Lines.{field}
-use Rattle.tables.proofs.Heads.{kindLine, line-end-at, line-digits, line-neither, digits-room, digits-hex, field-asks}
+use Rattle.tables.proofs.Heads.{kindLine, line-end-at, line-digits, line-neither, field-asks}
 use Rattle.tables.proofs.frames.line_at.Statement.{statement}
 use Rattle.tables.proofs.frames.line_at.Tie as tie
 
@@ -38,8 +38,7 @@ digits c = sym (c .before .is-digits-line .ensures) ∙ not-false _ (c .if2 .lef
 field-requires : tie.Need-field-requires
 field-requires c κs =
     let g = c .before .before .before .before .before .args in
-    let r = digits-room (g .text .now) (g .at) (digits c) (omega arith) in
-    field-asks (g .text .now) (g .at) (g .at) 0 2 (omega arith) r (digits-hex (g .text .now) (g .at) (digits c)) (omega arith) (omega arith)
+    field-asks (g .text .now) (g .at) (g .at) 0 2 (omega arith) (omega arith) (digits c) (omega arith) (omega arith)
 
 -- the answer goes by the first byte
 kind : (c : tie.After-field)
@@ -55,9 +54,7 @@ add-field c = search needs
 field-requires-2 : tie.Need-field-requires-2
 field-requires-2 c κs =
     let g = c .before .before .before .before .before .before .before .args in
-    let d = digits (c .before .before) in
-    let r = digits-room (g .text .now) (g .at) d (omega arith) in
-    field-asks (g .text .now) (g .at) (g .at + 2) 2 2 (omega arith) r (digits-hex (g .text .now) (g .at) d) (omega arith) (omega arith)
+    field-asks (g .text .now) (g .at) (g .at + 2) 2 2 refl (omega arith) (digits (c .before .before)) (omega arith) (omega arith)
 
 returns-3 : tie.Need-returns-3
 returns-3 c = rw (kind (c .before .before), eq-eqb _ _ (c .before .if3 .taken), c .field2 .ensures)
@@ -68,9 +65,7 @@ add-field-2 c = search needs
 field-requires-3 : tie.Need-field-requires-3
 field-requires-3 c κs =
     let g = c .before .before .before .before .before .before .before .before .args in
-    let d = digits (c .before .before .before) in
-    let r = digits-room (g .text .now) (g .at) d (omega arith) in
-    field-asks (g .text .now) (g .at) (g .at + 2) 2 2 (omega arith) r (digits-hex (g .text .now) (g .at) d) (omega arith) (omega arith)
+    field-asks (g .text .now) (g .at) (g .at + 2) 2 2 refl (omega arith) (digits (c .before .before .before)) (omega arith) (omega arith)
 
 returns-4 : tie.Need-returns-4
 returns-4 c = rw (kind (c .before .before .before), ne-eqb _ _ (c .before .before .if3 .left), eq-eqb _ _ (c .before .if4 .taken), c .field3 .ensures)

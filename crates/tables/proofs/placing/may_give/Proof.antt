@@ -3,8 +3,8 @@ use mathlib.Core.Path.{_≡_}
 use native.Mathlib.Omega.{arith}
 use borrow.Author.Needs.{needs}
 use borrow.Author.Tests.{eq-eqb, ne-eqb}
-use Rattle.tables.proofs.reading.may_give.Statement.{statement}
-use Rattle.tables.proofs.reading.may_give.Tie as tie
+use Rattle.tables.proofs.placing.may_give.Statement.{statement}
+use Rattle.tables.proofs.placing.may_give.Tie as tie
 
 returns : tie.Need-returns
 returns c = rw (ne-eqb (c .before .args .b + 1) (c .before .args .a) (λ e. omega arith))

@@ -11,8 +11,8 @@ use Rattle.tables.specs.Reader.{inPlace}
 use Rattle.tables.specs.declared.frames.Line.the-variants.{Opens, Gives}
 use Rattle.tables.proofs.Heads.{framed}
 use Rattle.tables.proofs.Places.{open-room, give-room, opened, opened-not, given, given-not, ended-early, ended-before, ended-well, broken, stopped}
-use Rattle.tables.proofs.reading.in_place.Statement.{statement}
-use Rattle.tables.proofs.reading.in_place.Tie as tie
+use Rattle.tables.proofs.placing.in_place.Statement.{statement}
+use Rattle.tables.proofs.placing.in_place.Tie as tie
 
 abbrev Inv-loop : tie.InvT-loop
 Inv-loop text p₀ n₀ a₀ i₀ p n a i =

@@ -1,7 +1,7 @@
 use borrow.Author.Tests.{eq-eqb, ne-eqb, lt-ltb, le-ltb}
 use Rattle.tables.proofs.Tests.{and-left, and-right}
-use Rattle.tables.proofs.reading.may_open.Statement.{statement}
-use Rattle.tables.proofs.reading.may_open.Tie as tie
+use Rattle.tables.proofs.placing.may_open.Statement.{statement}
+use Rattle.tables.proofs.placing.may_open.Tie as tie
 
 returns : tie.Need-returns
 returns c = rw (ne-eqb _ _ (c .if1 .taken))
