@@ -1,14 +1,16 @@
 -- What the family of an op says of its number, and what a row's op says of its fields. Assumes nothing.
 use mathlib.Core.Path.{_≡_, refl, sym, subst, ap, _∙_}
 use mathlib.Core.Logic.{_⊎_, inl, inr}
-use mathlib.Core.Bool.{Bool, true, false, _&&_, cond, false≢true}
+use mathlib.Core.Bool.{Bool, true, false, _&&_, _||_, cond, false≢true}
+use mathlib.Core.List.{List, [], _∷_}
 use Prim.Native.Nat.{ℕ, zero, suc, _≤_}
 use native.Mathlib.Omega.{arith}
 use lib.Dec.{T, leb, eqb}
+use lib.ListN.{getD}
 use borrow.Author.Tests.{leb-true, eqb-true, eqb-false, ne-eqb}
-use Rattle.tables.proofs.Passed.{and-1, and-2}
+use Rattle.tables.proofs.Passed.{and-1, and-2, each}
 use Rattle.tables.specs.Family.{familyOf}
-use Rattle.tables.specs.Rows.{namesOf, fieldsFit, wellFormed}
+use Rattle.tables.specs.Rows.{namesOf, within, fieldsFit, wellFormed}
 use Rattle.tables.specs.declared.Row.{Row}
 use Rattle.tables.specs.declared.Family.{Family}
 use Rattle.tables.specs.declared.Family.the-variants.{Local, Move, Send, Receive, Unknown}
@@ -138,3 +140,30 @@ module _ (r : Row) where
   pub receive-row : familyOf (r .op) ≡ Receive → wellFormed r ≡ fieldsFit r true false true true
   unfolding wellFormed namesOf
   receive-row h = rw (receive-op (r .op) h)
+
+-- ---- the ranges of a well-formed row's fields
+
+-- the tests of `fieldsFit` at the names of a row's op
+abbrev fieldTests : Row → List Bool
+fieldTests r =
+    let u = namesOf (r .op) in
+    within (u .x) 3 (r .x) ∷ within (u .y) 3 (r .y) ∷ within (u .n) 31 (r .n) ∷ (u .k || eqb (r .k) 0) ∷ []
+
+within-le : (named : Bool) (limit v : ℕ) → within named limit v ≡ true → v ≤ limit
+unfolding within
+within-le true limit v h = leb-true v limit h
+within-le false limit v h = let e = eqb-true v 0 h in omega arith
+
+module _ (r : Row) (w : wellFormed r ≡ true) where
+  field-passes : (k : ℕ) → getD (fieldTests r) k true ≡ true
+  unfolding wellFormed fieldsFit
+  field-passes k = each (fieldTests r) (and-2 (namesOf (r .op) .known) _ w) k
+
+  pub x-range : r .x ≤ 3
+  x-range = within-le (namesOf (r .op) .x) 3 (r .x) (field-passes 0)
+
+  pub y-range : r .y ≤ 3
+  y-range = within-le (namesOf (r .op) .y) 3 (r .y) (field-passes 1)
+
+  pub n-range : r .n ≤ 31
+  n-range = within-le (namesOf (r .op) .n) 31 (r .n) (field-passes 2)

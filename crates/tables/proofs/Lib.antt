@@ -6,3 +6,5 @@ pub mod Lines
 pub mod Heads
 pub mod Places
 pub mod Families
+pub mod Loops
+pub mod Good

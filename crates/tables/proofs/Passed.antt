@@ -44,6 +44,11 @@ pub every-go : (b q : Bool) (bs : List Bool) → b ≡ true → q ≡ every bs �
 unfolding every
 every-go b q bs h e = rw h e
 
+pub every-of : (bs : List Bool) → ((k : ℕ) → getD bs k true ≡ true) → every bs ≡ true
+unfolding every
+every-of [] h = refl
+every-of (b ∷ bs) h = and-both b (every bs) (h 0) (every-of bs (λ k. h (suc k)))
+
 -- ---- every number below n
 
 pub below : (n : ℕ) (f : ℕ → Bool) → allBelow n f ≡ true → (i : ℕ) → i < n → f i ≡ true

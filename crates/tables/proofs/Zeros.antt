@@ -8,9 +8,10 @@ use native.Mathlib.Omega.{arith}
 use lib.Dec.{eqb}
 use lib.ListN.{take, drop, getD}
 use lib.Seq.{getD-drop}
-use borrow.Author.Tests.{ne-eqb, eq-eqb}
+use borrow.Author.Tests.{ne-eqb, eq-eqb, eqb-true}
 use Rattle.tables.proofs.Tests.{and-right, and-yes}
-use Rattle.tables.specs.Basics.{allZero, zeroFrom}
+use Rattle.tables.proofs.Passed.{below, all-below}
+use Rattle.tables.specs.Basics.{allZero, allBelow, zeroFrom}
 
 and-assoc : (a b c : Bool) → (a && (b && c)) ≡ ((a && b) && c)
 and-assoc true b c = refl
@@ -46,3 +47,26 @@ zero-stop ws i k h n = zero-more ws i k h ∙ and-right (zeroFrom ws i k) _ (ne-
 
 pub zero-go : (ws : List ℕ) (i k : ℕ) → i ≤ k → getD ws k 0 ≡ 0 → zeroFrom ws i (k + 1) ≡ zeroFrom ws i k
 zero-go ws i k h e = zero-more ws i k h ∙ and-yes (zeroFrom ws i k) _ (eq-eqb (getD ws k 0) 0 e)
+
+-- ---- what it says of each place, and back
+
+abbrev isZero : List ℕ → ℕ → Bool
+isZero l k = eqb (getD l k 0) 0
+
+zeros-below : (l : List ℕ) (n : ℕ) → allZero (take n l) ≡ allBelow n (isZero l)
+unfolding allZero allBelow
+zeros-below l zero = refl
+zeros-below l (suc n) = more l n ∙ ap (λ (b : Bool). b && isZero l n) (zeros-below l n)
+
+module _ (ws : List ℕ) (i j : ℕ) where
+  pub zero-at : zeroFrom ws i j ≡ true → (k : ℕ) → i ≤ k → k < j → getD ws k 0 ≡ 0
+  unfolding zeroFrom
+  zero-at h k b c =
+      let e : i + (k - i) ≡ k = omega arith in
+      ap (λ (n : ℕ). getD ws n 0) (sym e) ∙ sym (getD-drop i ws (k - i) 0) ∙ eqb-true _ 0 (below (j - i) (isZero (drop i ws)) (sym (zeros-below (drop i ws) (j - i)) ∙ h) (k - i) (omega arith))
+
+  pub zero-all : ((k : ℕ) → i ≤ k → k < j → getD ws k 0 ≡ 0) → zeroFrom ws i j ≡ true
+  unfolding zeroFrom
+  zero-all h =
+      zeros-below (drop i ws) (j - i)
+      ∙ all-below (j - i) (isZero (drop i ws)) (λ k b. eq-eqb _ 0 (getD-drop i ws k 0 ∙ h (i + k) (omega arith) (omega arith)))

@@ -7,6 +7,7 @@ pub mod placing; // placing.rt: replies 2 and 3
 pub mod loading; // loading.rt: frames into the words of a table
 pub mod reading; // reading.rt: the reader
 pub mod rows; // rows.rt: a row of a table, its family, and replies 4 to 7
+pub mod checking; // checking.rt: the check of a table's words, reply 8
 
 // A row, taken apart.
 pub struct Row {

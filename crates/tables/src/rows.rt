@@ -9,7 +9,7 @@ use crate::replies::WINDOW_GOES_BACK;
 ghost use mathlib.Core.Path.{_≡_};
 ghost use Prim.Native.Nat.{_≤_, _<_};
 ghost use lib.ListN.{length};
-ghost use Rattle.tables.specs.Layout.{row, rowOf, tableWords};
+ghost use Rattle.tables.specs.Layout.{row, rowOf, rowPlace, tableWords};
 ghost use Rattle.tables.specs.Family.{familyOf};
 ghost use Rattle.tables.specs.Rows.{within, fieldsFit, wellFormed, rowReply};
 
@@ -41,12 +41,20 @@ pub fn row_of(code: u32, k: u32, early: u32, late: u32) -> Row
     }
 }
 
+// Where row i of agent a begins.
+pub fn row_place(a: usize, i: usize) -> usize
+    requires { ⌜ (a ≤ 16) × (i ≤ 32) ⌝ }
+    ensures { λ r. ⌜ r ≡ rowPlace a i ⌝ }
+{
+    81 + 4 * (32 * a + i)
+}
+
 // Row i of agent a.
 pub fn row_at(table: &[u32], a: usize, i: usize) -> Row
     requires { ⌜ (tableWords ≤ length (now table)) × (a < 16) × (i < 32) ⌝ }
     ensures { λ r. ⌜ r ≡ row (now (table .entry)) a i ⌝ }
 {
-    let p = 81 + 4 * (32 * a + i);
+    let p = row_place(a, i);
     row_of(table[p], table[p + 1], table[p + 2], table[p + 3])
 }
 

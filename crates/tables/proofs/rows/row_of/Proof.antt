@@ -1,3 +1,4 @@
+-- `row_of` meets its contract: the shifts are powers of two. Assumes nothing.
 use mathlib.Core.Path.{refl}
 use Rattle.tables.specs.Layout.{rowOf}
 use Rattle.tables.proofs.rows.row_of.Statement.{statement}

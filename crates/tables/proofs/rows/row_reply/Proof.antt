@@ -4,9 +4,6 @@ use Rattle.tables.proofs.Tests.{refused, granted}
 use Rattle.tables.proofs.RowReplies.{within-rows, past-rows, bad-row, bad-target, no-window, too-late, early-back, late-back, accepted}
 use Rattle.tables.proofs.rows.row_reply.Statement.{statement}
 use Rattle.tables.proofs.rows.row_reply.Tie as tie
-use Rattle.tables.proofs.rows.row_reply.Reads as reads
-use Rattle.tables.proofs.rows.row_reply.Lts as lts
-use Rattle.tables.proofs.rows.is_well_formed.Reads as is-well-formed-reads
 
 is-well-formed-requires : tie.Need-is-well-formed-requires
 is-well-formed-requires c κs = search needs

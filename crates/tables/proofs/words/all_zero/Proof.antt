@@ -1,11 +1,9 @@
+-- `all_zero` meets its contract. The loop holds whether the words up to k are 0. Assumes nothing.
 use borrow.Author.Needs.{needs}
-use borrow.Author.Tests.{eq-eqb, ne-eqb}
 use native.Mathlib.Omega.{arith}
-use mathlib.Core.Path.{_≡_, refl, sym, ap, _∙_}
+use mathlib.Core.Path.{_≡_, sym, ap, _∙_}
 use mathlib.Core.Logic.{⊎-elim}
-use mathlib.Core.Bool.{Bool, _&&_}
-use Prim.Native.Nat.{ℕ, _≤_, _-_}
-use lib.Dec.{eqb}
+use Prim.Native.Nat.{_≤_, _-_}
 use Rattle.tables.specs.Basics.{zeroFrom}
 use Rattle.tables.proofs.Zeros.{zero-none, zero-stop, zero-go}
 use Rattle.tables.proofs.words.all_zero.Statement.{statement}

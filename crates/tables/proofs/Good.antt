@@ -1,0 +1,178 @@
+-- What an accepted table is, fact by fact, and that these facts make one: what the executive and the reader use, so that neither opens
+-- the table rule. Assumes nothing.
+use mathlib.Core.Path.{_≡_, refl, sym, ap}
+use mathlib.Core.Bool.{Bool, true, false}
+use mathlib.Core.List.{List}
+use Prim.Native.Nat.{ℕ, zero, suc, _+_, _≤_, _<_}
+use native.Mathlib.Omega.{arith}
+use lib.Dec.{eqb, ltb}
+use lib.ListN.{getD}
+use borrow.Author.Tests.{leb-true, le-leb, eqb-true, eqb-false, eq-eqb, ltb-true, ltb-false}
+use Rattle.tables.proofs.Passed.{each, every-go, every-none, below, all-below}
+use Rattle.tables.proofs.Zeros.{zero-at, zero-all}
+use Rattle.tables.proofs.RowReplies.{RowFits, row-fits}
+use Rattle.tables.proofs.Loops.{rowPasses}
+use Rattle.tables.proofs.Families.{OneOfNine, one-of-nine, x-range, y-range, n-range}
+use Rattle.tables.specs.Layout.{agents, rows, row, rowPlace, startPlace, tableWords}
+use Rattle.tables.specs.Rows.{wellFormed}
+use Rattle.tables.specs.Table.{earlyBefore, lateBefore, rowReplyAt, goodRows, goodAgent, goodTable}
+
+-- the words from place i up to place j are 0
+abbrev pub Zero : List ℕ → ℕ → ℕ → Type 0
+Zero tb i j = (k : ℕ) → i ≤ k → k < j → getD tb k 0 ≡ 0
+
+-- ---- the facts
+
+pub record AgentFacts (tb : List ℕ) (a : ℕ) : Type 0 where
+  pub rows-some : 1 ≤ rows tb a
+  pub rows-few : rows tb a ≤ 32
+  pub rows-pass : (i : ℕ) → i < rows tb a → rowReplyAt tb a i ≡ 0
+  pub rows-past : Zero tb (rowPlace a (rows tb a)) (rowPlace (a + 1) 0)
+
+pub record TableFacts (tb : List ℕ) : Type 0 where
+  pub some-agents : 1 ≤ agents tb
+  pub few-agents : agents tb ≤ 16
+  pub each-agent : (a : ℕ) → a < agents tb → AgentFacts tb a
+  pub counts-past : Zero tb (1 + agents tb) 17
+  pub registers-past : Zero tb (startPlace (agents tb)) 81
+  pub agents-past : Zero tb (rowPlace (agents tb) 0) tableWords
+
+-- ---- the facts make a good table
+
+module _ (tb : List ℕ) where
+  pub rows-good : (a : ℕ) → ((i : ℕ) → i < rows tb a → rowReplyAt tb a i ≡ 0) → goodRows tb a ≡ true
+  unfolding goodRows
+  rows-good a h = all-below (rows tb a) (rowPasses tb a) (λ i l. eq-eqb (rowReplyAt tb a i) 0 (h i l))
+
+  pub agent-good : (a : ℕ) → AgentFacts tb a → goodAgent tb a ≡ true
+  unfolding goodAgent
+  agent-good a f =
+      sym
+      (every-go _ _ _ (le-leb _ _ (f .rows-some))
+      (every-go _ _ _ (le-leb _ _ (f .rows-few))
+      (every-go _ _ _ (rows-good a (f .rows-pass))
+      (every-go _ _ _ (zero-all _ _ _ (f .rows-past)) every-none))))
+
+  pub table-good : TableFacts tb → goodTable tb ≡ true
+  unfolding goodTable
+  table-good f =
+      sym
+      (every-go _ _ _ (le-leb _ _ (f .some-agents))
+      (every-go _ _ _ (le-leb _ _ (f .few-agents))
+      (every-go _ _ _ (all-below (agents tb) (goodAgent tb) (λ a h. agent-good a (f .each-agent a h)))
+      (every-go _ _ _ (zero-all _ _ _ (f .counts-past))
+      (every-go _ _ _ (zero-all _ _ _ (f .registers-past))
+      (every-go _ _ _ (zero-all _ _ _ (f .agents-past)) every-none))))))
+
+  -- ---- a good table has the facts
+
+  pub agent-facts : (a : ℕ) → goodAgent tb a ≡ true → AgentFacts tb a
+  unfolding goodAgent goodRows
+  agent-facts a good = record {
+    rows-some = leb-true _ _ (each _ good 0);
+    rows-few = leb-true _ _ (each _ good 1);
+    rows-pass = λ i l. eqb-true _ 0 (below (rows tb a) (rowPasses tb a) (each _ good 2) i l);
+    rows-past = zero-at _ _ _ (each _ good 3);
+  }
+
+  pub table-facts : goodTable tb ≡ true → TableFacts tb
+  unfolding goodTable
+  table-facts good = record {
+    some-agents = leb-true _ _ (each _ good 0);
+    few-agents = leb-true _ _ (each _ good 1);
+    each-agent = λ a h. agent-facts a (below (agents tb) (goodAgent tb) (each _ good 2) a h);
+    counts-past = zero-at _ _ _ (each _ good 3);
+    registers-past = zero-at _ _ _ (each _ good 4);
+    agents-past = zero-at _ _ _ (each _ good 5);
+  }
+
+-- what goes up, or stays, from each number below n to the next
+climbs : (f : ℕ → ℕ) (n : ℕ) → ((i : ℕ) → suc i < n → f i ≤ f (suc i)) → (i j : ℕ) → i ≤ j → j < n → f i ≤ f j
+climbs f n up i zero h l = let e : i ≡ 0 = omega arith in let q = ap f e in omega arith
+climbs f n up i (suc j) h l = go (λ k. climbs f n up i j k (omega arith)) (eqb i (suc j)) refl
+  where
+    go : (i ≤ j → f i ≤ f j) → (b : Bool) → eqb i (suc j) ≡ b → f i ≤ f (suc j)
+    go rec true e = let q = ap f (eqb-true i (suc j) e) in omega arith
+    go rec false e = let r = rec (omega (arith, eqb-false i (suc j) e)) in omega (arith, up j l)
+
+-- ---- an accepted table
+
+module _ (tb : List ℕ) (good : goodTable tb ≡ true) where
+  pub some : 1 ≤ agents tb
+  some = table-facts tb good .some-agents
+
+  pub few : agents tb ≤ 16
+  few = table-facts tb good .few-agents
+
+  -- 0 in the counts, the registers and the rows past the agents
+  pub no-count : (a : ℕ) → agents tb ≤ a → a < 16 → rows tb a ≡ 0
+  no-count a h l = table-facts tb good .counts-past (1 + a) (omega arith) (omega arith)
+
+  pub no-register : (a x : ℕ) → agents tb ≤ a → a < 16 → x < 4 → getD tb (startPlace a + x) 0 ≡ 0
+  no-register a x h l m = table-facts tb good .registers-past (startPlace a + x) (omega arith) (omega arith)
+
+  pub no-agent : (k : ℕ) → rowPlace (agents tb) 0 ≤ k → k < tableWords → getD tb k 0 ≡ 0
+  no-agent = table-facts tb good .agents-past
+
+  module _ (a : ℕ) (h : a < agents tb) where
+    agent : AgentFacts tb a
+    agent = table-facts tb good .each-agent a h
+
+    pub some-rows : 1 ≤ rows tb a
+    some-rows = agent .rows-some
+
+    pub few-rows : rows tb a ≤ 32
+    few-rows = agent .rows-few
+
+    -- 0 in the rows past its count
+    pub no-row : (i w : ℕ) → rows tb a ≤ i → i < 32 → w < 4 → getD tb (rowPlace a i + w) 0 ≡ 0
+    no-row i w l m n = agent .rows-past (rowPlace a i + w) (omega arith) (omega arith)
+
+    module _ (i : ℕ) (l : i < rows tb a) where
+      pub row-passes : rowReplyAt tb a i ≡ 0
+      row-passes = agent .rows-pass i l
+
+      pub fits : RowFits (row tb a i) i (rows tb a) (earlyBefore tb a i) (lateBefore tb a i)
+      unfolding rowReplyAt
+      fits = row-fits (row tb a i) i (rows tb a) (earlyBefore tb a i) (lateBefore tb a i) row-passes
+
+      pub formed : wellFormed (row tb a i) ≡ true
+      formed = fits .formed
+
+      pub op-known : OneOfNine (row tb a i .op)
+      op-known = one-of-nine (row tb a i) formed
+
+      pub x-fits : row tb a i .x ≤ 3
+      x-fits = x-range (row tb a i) formed
+
+      pub y-fits : row tb a i .y ≤ 3
+      y-fits = y-range (row tb a i) formed
+
+      pub n-fits : row tb a i .n ≤ 31
+      n-fits = n-range (row tb a i) formed
+
+      pub target : i + 1 + row tb a i .n ≤ rows tb a
+      target = fits .target
+
+      pub window : row tb a i .early < row tb a i .late
+      window = fits .window
+
+      pub late-bound : row tb a i .late ≤ 1000000
+      late-bound = fits .bound
+
+    -- windows are ordered along the rows
+    pub early-climbs : (i j : ℕ) → i ≤ j → j < rows tb a → row tb a i .early ≤ row tb a j .early
+    unfolding earlyBefore
+    early-climbs = climbs (λ i. row tb a i .early) (rows tb a) (λ i l. fits (suc i) l .early-on)
+
+    pub late-climbs : (i j : ℕ) → i ≤ j → j < rows tb a → row tb a i .late ≤ row tb a j .late
+    unfolding lateBefore
+    late-climbs = climbs (λ i. row tb a i .late) (rows tb a) (λ i l. fits (suc i) l .late-on)
+
+  -- 0 in every row that no agent has: past an agent's count, or past the agents
+  pub no-such-row : (a i w : ℕ) → a < 16 → i < 32 → w < 4 → (a < agents tb → rows tb a ≤ i) → getD tb (rowPlace a i + w) 0 ≡ 0
+  no-such-row a i w l m n past = go (ltb a (agents tb)) refl
+    where
+      go : (b : Bool) → ltb a (agents tb) ≡ b → getD tb (rowPlace a i + w) 0 ≡ 0
+      go true e = let h = ltb-true a (agents tb) e in no-row a h i w (past h) m n
+      go false e = let h = ltb-false a (agents tb) e in no-agent (rowPlace a i + w) (omega arith) (omega arith)
