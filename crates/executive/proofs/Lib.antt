@@ -1,0 +1,13 @@
+pub mod Lists
+pub mod Good
+pub mod After
+pub mod Choice
+pub mod Fitting
+pub mod Start
+pub mod Fits
+pub mod Runs
+pub mod OneByOne
+pub mod Taken
+pub mod Stuck
+pub mod Depends
+pub mod Bits

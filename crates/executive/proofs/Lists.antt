@@ -1,0 +1,62 @@
+-- Reads after stores, of one word and of several, and parts of a list told word by word. Assumes nothing.
+use mathlib.Core.Path.{_≡_, refl, sym, _∙_}
+use mathlib.Core.Logic.{_≢_}
+use mathlib.Core.List.{List, [], _∷_, _++_}
+use Prim.Native.Nat.{ℕ, zero, suc, _+_, _-_, _<_, _≤_, min}
+use native.Mathlib.Nat.{not-suc-le-zero, le-of-suc-le-suc, sub-zero, suc-sub-suc, suc-add, zero-add, add-suc}
+use native.Mathlib.Omega.{arith}
+use lib.ListN.{length, set, take, drop, getD, replicate, length-set, length-take, length-drop}
+use lib.Seq.{sets, length-sets, getD-set-same, getD-set-other, getD-take, getD-drop, ext-getD}
+
+-- ---- several words stored from a place on
+
+-- a word at none of the places stored to
+pub getD-sets-other : (vs l : List ℕ) (p j : ℕ) → ((i : ℕ) → i < length vs → j ≢ p + i) → getD (sets l p vs) j 0 ≡ getD l j 0
+getD-sets-other [] l p j out = refl
+getD-sets-other (v ∷ vs) l p j out =
+    getD-sets-other vs (set l p v) (suc p) j (λ i h e. out (suc i) (omega arith) (omega arith))
+    ∙ getD-set-other l p j v 0 (λ e. out 0 (omega arith) (omega arith))
+
+-- the word at the i-th of the places stored to
+pub getD-sets-same : (vs l : List ℕ) (p i : ℕ) → i < length vs → p + length vs ≤ length l → getD (sets l p vs) (p + i) 0 ≡ getD vs i 0
+getD-sets-same [] l p i h fit = absurd (not-suc-le-zero h)
+getD-sets-same (v ∷ vs) l p zero h fit =
+    let e : p + 0 ≡ p = omega arith in
+    rw e (getD-sets-other vs (set l p v) (suc p) p (λ i k d. omega arith) ∙ getD-set-same l p v 0 (omega arith))
+getD-sets-same (v ∷ vs) l p (suc i) h fit =
+    let e : p + suc i ≡ suc p + i = omega arith in
+    rw e (getD-sets-same vs (set l p v) (suc p) i (le-of-suc-le-suc h) (simp length-set (omega arith)))
+
+-- ---- parts
+
+-- a word of a part
+pub getD-part : (l : List ℕ) (n p i : ℕ) → i < n → getD (take n (drop p l)) i 0 ≡ getD l (p + i) 0
+getD-part l n p i h = getD-take n (drop p l) i 0 h ∙ getD-drop p l i 0
+
+-- parts of one length that agree word by word
+pub part-same : (l k : List ℕ) (n p q : ℕ) → p + n ≤ length l → q + n ≤ length k
+    → ((i : ℕ) → i < n → getD l (p + i) 0 ≡ getD k (q + i) 0) → take n (drop p l) ≡ take n (drop q k)
+part-same l k n p q hl hk same =
+    let el : length (take n (drop p l)) ≡ n = simp (length-take, length-drop) (omega arith) in
+    let ek : length (take n (drop q k)) ≡ n = simp (length-take, length-drop) (omega arith) in
+    ext-getD 0 (take n (drop p l)) (take n (drop q k)) (el ∙ sym ek) (λ i h.
+    let b : i < n = omega arith in getD-part l n p i b ∙ same i b ∙ sym (getD-part k n q i b))
+
+-- the part that was stored to
+pub part-sets : (l vs : List ℕ) (n p : ℕ) → length vs ≡ n → p + n ≤ length l → take n (drop p (sets l p vs)) ≡ vs
+part-sets l vs n p e fit =
+    let k : length (take n (drop p (sets l p vs))) ≡ n = simp (length-take, length-drop, length-sets) (omega arith) in
+    ext-getD 0 (take n (drop p (sets l p vs))) vs (k ∙ sym e) (λ i h.
+    let b : i < n = omega arith in getD-part (sets l p vs) n p i b ∙ getD-sets-same vs l p i (omega arith) (omega arith))
+
+-- ---- the end of a list after a beginning, and a list of zeros
+
+pub getD-right : (xs ys : List ℕ) (n : ℕ) → length xs ≤ n → getD (xs ++ ys) n 0 ≡ getD ys (n - length xs) 0
+getD-right [] ys n h = rw sub-zero
+getD-right (x ∷ xs) ys zero h = absurd (not-suc-le-zero h)
+getD-right (x ∷ xs) ys (suc n) h = rw suc-sub-suc (getD-right xs ys n (le-of-suc-le-suc h))
+
+pub getD-zeros : (n i : ℕ) → getD {A = ℕ} (replicate n 0) i 0 ≡ 0
+getD-zeros zero i = refl
+getD-zeros (suc n) zero = refl
+getD-zeros (suc n) (suc i) = getD-zeros n i
