@@ -9,7 +9,8 @@ use lib.ListN.{length, take, drop, length-drop, length-take, take-append-drop, d
 use lib.Seq.{drop-drop, take-take, take-at}
 use Rattle.tables.specs.Lines.{newline, lines, same, allHex, number, field, digitsLine}
 use Rattle.tables.specs.Heads.{digitsAt}
-use Rattle.tables.proofs.Lines.{and-first, and-second, same-eq, hex-part}
+use Rattle.tables.proofs.Lines.{same-eq, hex-part}
+use Rattle.tables.proofs.Passed.{and-1, and-2}
 use Rattle.tables.proofs.Heads.{lines-digits, field-from}
 use Rattle.traces.specs.Input.{goodChoice, badChoice, choicesIn}
 use Rattle.traces.specs.Places.{lineLength, choiceAt}
@@ -20,7 +21,7 @@ use Rattle.traces.proofs.Places.{first-line}
 digits-length : (n : ℕ) (l : List ℕ) → digitsLine n l ≡ true → length l ≡ n + 1
 unfolding digitsLine
 digits-length n l h =
-    let d = same-eq (drop n l) (newline ∷ []) (and-second (allHex (take n l)) (same (drop n l) (newline ∷ [])) h) in
+    let d = same-eq (drop n l) (newline ∷ []) (and-2 (allHex (take n l)) (same (drop n l) (newline ∷ [])) h) in
     let e : length l - n ≡ 1 = sym (length-drop n l) ∙ ap length d in
     omega arith
 
@@ -42,7 +43,7 @@ module _ (text : List ℕ) (p : ℕ) (d : digitsAt 12 text p ≡ true) where
   unfolding digitsAt digitsLine
   choice-hex =
       sym (ap allHex (take-take 12 13 (drop p text) (omega arith)))
-      ∙ and-first (allHex (take 12 (take 13 (drop p text)))) (same (drop 12 (take 13 (drop p text))) (newline ∷ [])) d
+      ∙ and-1 (allHex (take 12 (take 13 (drop p text)))) (same (drop 12 (take 13 (drop p text))) (newline ∷ [])) d
 
   -- k digits from digit i of the line
   module _ (i k : ℕ) (h : i + k ≤ 12) where
@@ -72,7 +73,7 @@ choice-not text p d = rw d
 module _ (text : List ℕ) (p : ℕ) (h : choiceAt text p ≡ true) where
   pub choice-digits : digitsAt 12 text p ≡ true
   unfolding choiceAt goodChoice digitsAt
-  choice-digits = and-first (digitsLine 12 (take 13 (drop p text))) (eqb (field (take 13 (drop p text)) 0 2) 2) h
+  choice-digits = and-1 (digitsLine 12 (take 13 (drop p text))) (eqb (field (take 13 (drop p text)) 0 2) 2) h
 
   choice-lines : lines (drop p text) ≡ take 13 (drop p text) ∷ lines (drop (p + 13) text)
   unfolding digitsAt
@@ -94,7 +95,7 @@ module _ (text : List ℕ) (p : ℕ) (i : p < length text) where
     where
       go : (b : Bool) → goodChoice l ≡ b → b ≡ false
       go true q =
-          let n = digits-length 12 l (and-first (digitsLine 12 l) (eqb (field l 0 2) 2) q) in
+          let n = digits-length 12 l (and-1 (digitsLine 12 l) (eqb (field l 0 2) 2) q) in
           let f : take 13 (drop p text) ≡ l = ap (take 13) e ∙ take-at l r 13 n in
           sym (ap goodChoice f ∙ q) ∙ h
       go false q = refl
