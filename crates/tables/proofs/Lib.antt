@@ -8,3 +8,8 @@ pub mod Places
 pub mod Families
 pub mod Loops
 pub mod Good
+pub mod Accepted
+pub mod RowsRead
+pub mod Loads
+pub mod Arms
+pub mod Outcomes

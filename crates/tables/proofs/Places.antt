@@ -32,19 +32,19 @@ pub give-room : (b a i : ℕ) → mayGive b a i ≡ true → i < 32
 give-room b a i h = ltb-true i 32 (and-2 (eqb (b + 1) a) (ltb i 32) h)
 
 module _ (n a i b : ℕ) (ws : List ℕ) (fs : List Frame) where
-  place-open : mayOpen b a i ≡ true → inPlace n a i (opens b ws ∷ fs) ≡ inPlace (n + 1) (a + 1) 0 fs
+  pub place-open : mayOpen b a i ≡ true → inPlace n a i (opens b ws ∷ fs) ≡ inPlace (n + 1) (a + 1) 0 fs
   unfolding inPlace
   place-open h = rw (h, inPlace)
 
-  place-open-not : mayOpen b a i ≡ false → inPlace n a i (opens b ws ∷ fs) ≡ told 3 n
+  pub place-open-not : mayOpen b a i ≡ false → inPlace n a i (opens b ws ∷ fs) ≡ told 3 n
   unfolding inPlace
   place-open-not h = rw (h, inPlace)
 
-  place-give : mayGive b a i ≡ true → inPlace n a i (gives b ws ∷ fs) ≡ inPlace (n + 1) a (i + 1) fs
+  pub place-give : mayGive b a i ≡ true → inPlace n a i (gives b ws ∷ fs) ≡ inPlace (n + 1) a (i + 1) fs
   unfolding inPlace
   place-give h = rw (h, inPlace)
 
-  place-give-not : mayGive b a i ≡ false → inPlace n a i (gives b ws ∷ fs) ≡ told 3 n
+  pub place-give-not : mayGive b a i ≡ false → inPlace n a i (gives b ws ∷ fs) ≡ told 3 n
   unfolding inPlace
   place-give-not h = rw (h, inPlace)
 

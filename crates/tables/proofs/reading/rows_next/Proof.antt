@@ -1,17 +1,12 @@
 use mathlib.Core.Path.{_≡_, refl, sym, ap, _∙_}
-use mathlib.Core.Bool.{false}
-use mathlib.Core.List.{[], _∷_}
 use Prim.Native.Nat.{_+_, _-_, _≤_}
 use native.Mathlib.Omega.{arith}
 use lib.ListN.{length, drop}
 use borrow.Author.Needs.{needs}
-use types.Run.{OneOf, miss}
-use denote.Enum.Declared.{tagOf}
 use Rattle.tables.specs.Frames.{framesOf}
 use Rattle.tables.specs.Reader.{rowsNext}
-use Rattle.tables.specs.declared.frames.Line.{Line}
-use Rattle.tables.specs.declared.frames.Line.the-variants.{Opens, Gives, Ends, Malformed}
-use Rattle.tables.proofs.frames.Line.{the-type}
+use Rattle.tables.specs.declared.frames.Line.the-variants.{Gives}
+use Rattle.tables.proofs.Arms.{no-gives}
 use Rattle.tables.proofs.Heads.{framed}
 use Rattle.tables.proofs.Places.{isGives, row-next, no-row-next, no-row-left}
 use Rattle.tables.proofs.reading.rows_next.Statement.{statement}
@@ -26,13 +21,6 @@ Inv-loop text at p₀ c₀ p c =
 
 abbrev μ-loop : tie.MeasureT-loop
 μ-loop text at p₀ c₀ p c = length text - p
-
--- the lines that give no row
-other : (ln : Line) → OneOf (0 ∷ 2 ∷ 3 ∷ []) (tagOf the-type ln) → isGives ln ≡ false
-other (Opens b) k = refl
-other (Gives b) k = absurd (miss (0 ∷ 2 ∷ 3 ∷ []) 1 tt k)
-other Ends k = refl
-other Malformed k = refl
 
 -- one row more, and its line's room
 row : (c : tie.After-enum-told Inv-loop μ-loop)
@@ -71,7 +59,7 @@ returns c =
     let l = c .before .before .before .loop in
     let g = c .before .before .before .before .before .args in
     let q = c .before .line-at in
-    let e = ap isGives (sym (q .ensures)) ∙ other (q .result) (c .match .keys2) in
+    let e = ap isGives (sym (q .ensures)) ∙ no-gives (q .result) (c .match .keys2) in
     let z = no-row-next (g .text .now) (l .p) (l .inv .0) e in
     omega arith
 

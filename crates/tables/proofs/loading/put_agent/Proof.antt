@@ -1,0 +1,46 @@
+use mathlib.Core.Path.{_∙_}
+use Prim.Native.Nat.{_+_}
+use native.Mathlib.Omega.{arith}
+use lib.ListN.{length-set}
+use borrow.Author.Needs.{needs}
+use Rattle.tables.proofs.loading.put_agent.Statement.{statement}
+use Rattle.tables.proofs.loading.put_agent.Tie as tie
+
+add-table : tie.Need-add-table
+add-table c = search needs
+
+cast-table : tie.Need-cast-table
+cast-table c = search needs
+
+slice-write-table : tie.Need-slice-write-table
+slice-write-table c = search needs
+
+mul-put-words : tie.Need-mul-put-words
+mul-put-words c = search needs
+
+add-put-words : tie.Need-add-put-words
+add-put-words c = search needs
+
+put-words-requires : tie.Need-put-words-requires
+put-words-requires c κs = let p = c .before .before .before .pre in (p .0, p .1, simp length-set (omega arith))
+
+same-length : tie.Need-same-length
+same-length c =
+    let g = c .before .before .before .before .before .before .args in
+    c .before .before .put-words .kept .1 .1 .0 ∙ length-set (g .table .now) 0 (g .a + 1)
+
+returns : tie.Need-returns
+returns c = search needs
+
+pub put-agent-spec : {M : Type 1} → statement M
+put-agent-spec =
+    tie.close
+    (tie.spec
+    add-table
+    cast-table
+    slice-write-table
+    mul-put-words
+    add-put-words
+    put-words-requires
+    same-length
+    returns)
