@@ -12,3 +12,8 @@ pub mod Taken
 pub mod Stuck
 pub mod Depends
 pub mod Bits
+pub mod Effects
+pub mod Deadline
+pub mod Around
+pub mod Choosing
+pub mod Grids

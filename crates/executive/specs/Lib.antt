@@ -4,6 +4,7 @@ pub mod Messages
 pub mod Effect
 pub mod Fit
 pub mod Step
+pub mod Registers
 pub mod Run
 pub mod Calls
 pub mod Cases

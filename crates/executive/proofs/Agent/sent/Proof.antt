@@ -1,0 +1,13 @@
+use Rattle.executive.proofs.Effects.{after-send}
+use borrow.Author.Needs.{needs}
+use Rattle.executive.proofs.Agent.sent.Statement.{statement}
+use Rattle.executive.proofs.Agent.sent.Tie as tie
+
+add-t4 : tie.Need-add-t4
+add-t4 c = search needs
+
+returns : tie.Need-returns
+returns c m = after-send _ m _ (c .before .before .pre .0)
+
+pub sent-spec : {M : Type 1} → statement M
+sent-spec = tie.close (tie.spec add-t4 returns)

@@ -1,0 +1,36 @@
+// The registers of all agents, out of a state's words and back into them.
+ghost use mathlib.Core.Path.{_≡_};
+ghost use Prim.Native.Nat.{_+_, _≤_};
+ghost use lib.ListN.{length, take, drop};
+ghost use Rattle.executive.specs.State.{stateWords};
+ghost use Rattle.executive.specs.Registers.{withRegs};
+
+// Four words from a place on.
+fn four_from(words: &[u32], p: usize) -> [u32; 4]
+    requires { ⌜ p + 4 ≤ length (now words) ⌝ }
+    ensures { λ r. ⌜ r ≡ take 4 (drop p (now (words .entry))) ⌝ }
+{
+    [words[p], words[p + 1], words[p + 2], words[p + 3]]
+}
+
+// The registers that stand in the state.
+pub fn load_registers(state: &[u32]) -> [[u32; 4]; 16]
+    requires { ⌜ stateWords ≤ length (now state) ⌝ }
+    ensures { λ g. ⌜ withRegs (now (state .entry)) g ≡ now (state .entry) ⌝ }
+{
+    let mut g = [[0u32; 4]; 16];
+    for a in 0..16 {
+        g[a] = four_from(state, 17 + 4 * a);
+    }
+    g
+}
+
+// The registers g into the state.
+pub fn store_registers(state: &mut [u32], g: [[u32; 4]; 16])
+    requires { ⌜ stateWords ≤ length (now state) ⌝ }
+    ensures { λ _. ⌜ now (state .exit) ≡ withRegs (now (state .entry)) g ⌝ }
+{
+    for j in 0..64 {
+        state[17 + j] = g[j / 4][j % 4];
+    }
+}
