@@ -17,3 +17,5 @@ pub mod Deadline
 pub mod Around
 pub mod Choosing
 pub mod Grids
+pub mod Front
+pub mod Outcomes
