@@ -1,19 +1,19 @@
 -- Frames that are in their places: the bounds that hold at each of them. Assumes nothing.
 use mathlib.Core.Path.{_≡_, refl, sym, ap, subst, _∙_}
-use mathlib.Core.Bool.{Bool, true, false, _&&_, _||_}
+use mathlib.Core.Bool.{Bool, true, false, _&&_, _||_, cond, false≢true}
 use mathlib.Core.List.{List, [], _∷_}
 use Prim.Native.Nat.{ℕ, zero, suc, _+_, _*_, _≤_, _<_}
 use native.Mathlib.Omega.{arith}
 use lib.Dec.{ltb, eqb}
-use borrow.Author.Tests.{eqb-true}
+use borrow.Author.Tests.{eqb-true, ltb-true}
 use lib.ListN.{length, drop}
 use Rattle.tables.specs.Frames.{Frame, opens, gives, ends, malformed, framesOf}
 use Rattle.tables.specs.Heads.{lineAt, wordsAt}
-use Rattle.tables.specs.Reader.{told, inPlace, rowsNext}
+use Rattle.tables.specs.Reader.{told, noneLeft, inPlace, rowsNext}
 use Rattle.tables.specs.declared.Told.{Told}
 use Rattle.tables.specs.declared.frames.Line.the-variants.{Opens, Gives}
 use Rattle.tables.proofs.Heads.{Framed, framed}
-use Rattle.tables.proofs.Passed.{and-1}
+use Rattle.tables.proofs.Passed.{and-1, and-2}
 use Rattle.tables.proofs.Places.{mayOpen, mayGive, open-room, give-room, place-open, place-open-not, place-give, place-give-not}
 
 -- frames that are in their places from line n on, after a agents of which the last has i rows
@@ -42,10 +42,10 @@ module _ (n a i b : ℕ) (ws : List ℕ) (fs : List Frame) where
       go false e = let z = ap (λ (t : Told). t .reply) (sym (place-give-not n a i b ws fs e)) ∙ q .placed in absurd (omega arith)
 
   -- a further agent: there is room for it
-  open-agent : Placed n a i (opens b ws ∷ fs) → a < 16
+  pub open-agent : Placed n a i (opens b ws ∷ fs) → a < 16
   open-agent q = open-room b a i (open-may q)
 
-  open-on : Placed n a i (opens b ws ∷ fs) → Placed (n + 1) (a + 1) 0 fs
+  pub open-on : Placed n a i (opens b ws ∷ fs) → Placed (n + 1) (a + 1) 0 fs
   open-on q =
       let r = open-agent q in
       let l = q .line in
@@ -57,14 +57,23 @@ module _ (n a i b : ℕ) (ws : List ℕ) (fs : List Frame) where
         placed = ap (λ (t : Told). t .reply) (sym (place-open n a i b ws fs (open-may q))) ∙ q .placed;
       }
 
+  -- the agent before has rows
+  pub open-rows : Placed n a i (opens b ws ∷ fs) → 0 < a → 0 < i
+  open-rows q h = go (eqb a 0) (ltb 0 i) refl refl (and-2 (eqb b a && ltb a 16) (eqb a 0 || ltb 0 i) (open-may q))
+    where
+      go : (z s : Bool) → eqb a 0 ≡ z → ltb 0 i ≡ s → (z || s) ≡ true → 0 < i
+      go true s e f k = let y = eqb-true a 0 e in absurd (omega arith)
+      go false true e f k = ltb-true 0 i f
+      go false false e f k = absurd (false≢true k)
+
   -- a further row of the open agent: there is room for it
-  give-row : Placed n a i (gives b ws ∷ fs) → i < 32
+  pub give-row : Placed n a i (gives b ws ∷ fs) → i < 32
   give-row q = give-room b a i (give-may q)
 
-  give-agent : Placed n a i (gives b ws ∷ fs) → b + 1 ≡ a
+  pub give-agent : Placed n a i (gives b ws ∷ fs) → b + 1 ≡ a
   give-agent q = eqb-true (b + 1) a (and-1 (eqb (b + 1) a) (ltb i 32) (give-may q))
 
-  give-on : Placed n a i (gives b ws ∷ fs) → Placed (n + 1) a (i + 1) fs
+  pub give-on : Placed n a i (gives b ws ∷ fs) → Placed (n + 1) a (i + 1) fs
   give-on q =
       let r = give-row q in
       let l = q .line in
@@ -75,6 +84,15 @@ module _ (n a i b : ℕ) (ws : List ℕ) (fs : List Frame) where
         line = omega arith;
         placed = ap (λ (t : Told). t .reply) (sym (place-give n a i b ws fs (give-may q))) ∙ q .placed;
       }
+
+-- the last agent has rows
+pub ends-rows : (n a i : ℕ) (fs : List Frame) → Placed n a i (ends ∷ fs) → 0 < i
+unfolding inPlace
+ends-rows n a i fs q = go (ltb 0 i) refl (q .placed)
+  where
+    go : (s : Bool) → ltb 0 i ≡ s → cond s (cond (noneLeft fs) (told 0 0) (told 3 (n + 1))) (told 3 n) .reply ≡ 0 → 0 < i
+    go true f h = ltb-true 0 i f
+    go false f h = absurd (omega arith)
 
 -- an agent has at most 32 rows
 pub rows-fit : (fs : List Frame) (n a i : ℕ) → Placed n a i fs → i + rowsNext fs ≤ 32

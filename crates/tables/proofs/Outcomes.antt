@@ -4,11 +4,13 @@ use mathlib.Core.Bool.{Bool, true, false}
 use mathlib.Core.List.{List, _++_}
 use Prim.Native.Nat.{ℕ, zero, suc, _≤_, _<_}
 use lib.ListN.{length, drop}
-use borrow.Author.Tests.{lt-ltb, le-ltb}
+use lib.Dec.{ltb}
+use native.Mathlib.Omega.{arith}
+use borrow.Author.Tests.{lt-ltb, le-ltb, ltb-true, ltb-false}
 use Rattle.tables.specs.Layout.{tableWords}
 use Rattle.tables.specs.Frames.{Frame, framesOf}
 use Rattle.tables.specs.Reader.{told, inPlace, rowsGood, framesReply, tableOf}
-use Rattle.tables.specs.Calls.{ReadOutcome, readOutcome, framesInto, readInto}
+use Rattle.tables.specs.Calls.{ReadOutcome, readOutcome, framesInto, readInto, Read}
 use Rattle.tables.specs.declared.Told.{Told}
 
 module _ (fs : List Frame) where
@@ -66,3 +68,34 @@ module _ (text tb : List ℕ) where
           (into ∙ accepted (framesOf text) tb (ap (λ (u : Told). u .reply) f ∙ z)
           ∙ ap (λ (u : Told). readOutcome u (tableOf (framesOf text) ++ drop tableWords tb)) f
           ∙ ap (λ (l : List ℕ). readOutcome t (l ++ drop tableWords tb)) (sym w))
+
+-- ---- a read that was accepted
+
+module _ (fs : List Frame) where
+  pub accepted-placed : framesReply fs .reply ≡ 0 → inPlace 1 0 0 fs .reply ≡ 0
+  accepted-placed h = go (inPlace 1 0 0 fs .reply) refl
+    where
+      go : (r : ℕ) → inPlace 1 0 0 fs .reply ≡ r → r ≡ 0
+      go zero e = refl
+      go (suc r) e = sym (ap (λ (u : Told). u .reply) (misplaced fs (suc r) e (λ q. omega arith)) ∙ e) ∙ h
+
+module _ (text tb : List ℕ) (t : Told) (after : List ℕ) (r : Read text tb t after) (z : t .reply ≡ 0) where
+  accepted-into : ltb (length tb) tableWords ≡ false
+  unfolding readInto
+  accepted-into = go (ltb (length tb) tableWords) refl
+    where
+      go : (b : Bool) → ltb (length tb) tableWords ≡ b → b ≡ false
+      go true e =
+          let y = ap (λ (o : ReadOutcome). o .told .reply) (r ∙ sym (short-table text tb (ltb-true _ _ e))) in absurd (omega arith)
+      go false e = refl
+
+  pub accepted-read : (framesReply (framesOf text) .reply ≡ 0) × (after ≡ tableOf (framesOf text) ++ drop tableWords tb)
+  accepted-read = go (framesReply (framesOf text) .reply) refl
+    where
+      go : (n : ℕ) → framesReply (framesOf text) .reply ≡ n → (n ≡ 0) × (after ≡ tableOf (framesOf text) ++ drop tableWords tb)
+      go zero e =
+          (refl, ap (λ (o : ReadOutcome). o .table) (r ∙ into text tb (ltb-false _ _ accepted-into) ∙ accepted (framesOf text) tb e))
+      go (suc n) e =
+          let q = r ∙ into text tb (ltb-false _ _ accepted-into) ∙ refused (framesOf text) tb (suc n) e (λ u. omega arith) in
+          let y = ap (λ (o : ReadOutcome). o .told .reply) q in
+          absurd (omega arith)

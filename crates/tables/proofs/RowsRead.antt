@@ -36,11 +36,11 @@ module _ (n c i e l b : ℕ) (ws : List ℕ) (fs : List Frame) where
   unfolding rowsGood
   good-open = refl
 
-  good-row : rowReply (rowIn ws) i c e l ≡ 0 → rowsGood n c i e l (gives b ws ∷ fs) ≡ rowsGood (n + 1) c (i + 1) (rowIn ws .early) (rowIn ws .late) fs
+  pub good-row : rowReply (rowIn ws) i c e l ≡ 0 → rowsGood n c i e l (gives b ws ∷ fs) ≡ rowsGood (n + 1) c (i + 1) (rowIn ws .early) (rowIn ws .late) fs
   unfolding rowsGood
   good-row h = rw (h, rowsGood)
 
-  bad-row : (r : ℕ) → rowReply (rowIn ws) i c e l ≡ r → (r ≡ 0 → ⊥) → rowsGood n c i e l (gives b ws ∷ fs) ≡ told r n
+  pub bad-row : (r : ℕ) → rowReply (rowIn ws) i c e l ≡ r → (r ≡ 0 → ⊥) → rowsGood n c i e l (gives b ws ∷ fs) ≡ told r n
   unfolding rowsGood
   bad-row zero h k = absurd (k refl)
   bad-row (suc r) h k = rw (h, rowsGood)

@@ -2,12 +2,12 @@
 // Everything above relies only on what this crate promises.
 pub mod replies; // replies.rt: the numbers of the replies
 pub mod words; // words.rt: words that are 0
+pub mod rows; // rows.rt: a row of a table, its family, and replies 4 to 7
+pub mod checking; // checking.rt: the check of a table's words, reply 8
 pub mod frames; // frames.rt: the lines of a text
 pub mod placing; // placing.rt: replies 2 and 3
 pub mod loading; // loading.rt: frames into the words of a table
 pub mod reading; // reading.rt: the reader
-pub mod rows; // rows.rt: a row of a table, its family, and replies 4 to 7
-pub mod checking; // checking.rt: the check of a table's words, reply 8
 
 // A row, taken apart.
 pub struct Row {
