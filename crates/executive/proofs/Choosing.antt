@@ -86,7 +86,7 @@ module _ (st : List ℕ) (g : List (List ℕ)) (long : length st ≡ 1105) where
   whole-high : (j : ℕ) → 81 ≤ j → getD whole j 0 ≡ getD st j 0
   whole-high = around-high st (listed (register g) 64) (omega arith) gs-length
 
-  whole-register : (i : ℕ) → i < 64 → getD whole (17 + i) 0 ≡ register g i
+  pub whole-register : (i : ℕ) → i < 64 → getD whole (17 + i) 0 ≡ register g i
   whole-register i h =
       let e : 17 + i - 17 ≡ i = omega arith in
       around-mid st (listed (register g) 64) (omega arith) gs-length (17 + i) (omega arith) (omega arith)
@@ -174,6 +174,26 @@ module _ (ws m : List ℕ) (long : length ws ≡ 1105) (full : length m ≡ 64) 
   unfolding withAgent
   with-agent-length q = simp (length-sets, length-set) long
 
+-- ---- how a choice ends, by its reply
+
+module _ (tb st : List ℕ) (g : List (List ℕ)) (a t : ℕ) where
+  abbrev new : List ℕ
+  new = accepted tb (withRegs st g) a t
+
+  pub by-reply : (r : ℕ) → choiceReply tb (withRegs st g) a t ≡ r
+      → chooseInto tb st g a t ≡ elim r as (λ _. ChoiceOutcome) [
+        | zero ↦ chosen 0 (agentAt new a) (around new (take 64 (drop 17 st)))
+        | suc r ↦ chosen (suc r) nobody st
+      ]
+  unfolding chooseInto
+  by-reply r h =
+      ap
+      (λ (x : ℕ). elim x as (λ _. ChoiceOutcome) [
+        | zero ↦ chosen 0 (agentAt new a) (around new (take 64 (drop 17 st)))
+        | suc r ↦ chosen (suc r) nobody st
+      ])
+      h
+
 module _ (tb st : List ℕ) (g : List (List ℕ)) (long : length st ≡ 1105) (few : agents tb ≤ 16) (a t : ℕ) where
   abbrev own : List ℕ
   own = take 64 (drop 17 st)
@@ -184,23 +204,9 @@ module _ (tb st : List ℕ) (g : List (List ℕ)) (long : length st ≡ 1105) (f
   pub reply-whole : choiceReply tb (withRegs st g) a t ≡ choiceReply tb st a t
   reply-whole = reply-same tb (withRegs st g) st few (whole-low st g long) a t
 
-  by-reply : (r : ℕ) → choiceReply tb st a t ≡ r
-      → chooseInto tb st g a t ≡ elim r as (λ _. ChoiceOutcome) [
-        | zero ↦ chosen 0 (agentAt (accepted tb (withRegs st g) a t) a) (around (accepted tb (withRegs st g) a t) own)
-        | suc r ↦ chosen (suc r) nobody st
-      ]
-  unfolding chooseInto
-  by-reply r h =
-      ap
-      (λ (x : ℕ). elim x as (λ _. ChoiceOutcome) [
-        | zero ↦ chosen 0 (agentAt (accepted tb (withRegs st g) a t) a) (around (accepted tb (withRegs st g) a t) own)
-        | suc r ↦ chosen (suc r) nobody st
-      ])
-      (reply-whole ∙ h)
-
   pub refuses : (r : ℕ) → choiceReply tb st a t ≡ r → (r ≡ 0 → ⊥) → chosen r nobody st ≡ chooseInto tb st g a t
   refuses zero h n = absurd (n refl)
-  refuses (suc r) h n = sym (by-reply (suc r) h)
+  refuses (suc r) h n = sym (by-reply tb st g a t (suc r) (reply-whole ∙ h))
 
   module _ (low : a < 16) (four : length (getD g a []) ≡ 4) (within : pos st a < 32) where
     around-step : around (accepted tb (withRegs st g) a t) own
@@ -223,7 +229,7 @@ module _ (tb st : List ℕ) (g : List (List ℕ)) (long : length st ≡ 1105) (f
     pub accepts : choiceReply tb st a t ≡ 0
         → chosen 0 (moved st g long a low four tb t) (withSent (set (set st 0 t) (posPlace a) (moved st g long a low four tb t .pos)) a (row tb a (pos st a)) (self st g long a low four))
         ≡ chooseInto tb st g a t
-    accepts h = sym (by-reply 0 h ∙ ap₂ (chosen 0) (self-after st g long a low four tb t) around-step)
+    accepts h = sym (by-reply tb st g a t 0 (reply-whole ∙ h) ∙ ap₂ (chosen 0) (self-after st g long a low four tb t) around-step)
 
     -- the same, by what is made on the way: the row r, the agent q after it, the words ws
     pub made : (n : ℕ) (r : Row) (q : Agent) (ws : List ℕ) → choiceReply tb st a t ≡ 0 → n ≡ 0 → r ≡ row tb a (pos st a)

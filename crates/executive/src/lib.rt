@@ -5,6 +5,7 @@ mod starting; // starting.rt: the start state of a table
 mod deadlines; // deadlines.rt: the deadline of all agents, and whether any agent can go
 mod registers; // registers.rt: the registers of all agents, out of a state's words and back into them
 mod stepping; // stepping.rt: the reply to a choice, and its effect
+mod running; // running.rt: a run over a list of choices
 pub mod calls; // calls.rt: start, step and run on lent words
 
 // An agent's state, which goes in whole and comes back whole.
@@ -17,6 +18,13 @@ pub struct Agent {
 pub struct Chosen {
     pub reply: u32,
     pub agent: Agent,
+}
+
+// How a run ends: its reply, and the count of accepted steps.
+#[repr(C)]
+pub struct Ran {
+    pub reply: u32,
+    pub count: u32,
 }
 
 // The best message so far.

@@ -1,0 +1,168 @@
+-- A run worked out with the registers beside the state: what one choice makes of what is left to run. Assumes nothing.
+use mathlib.Core.Path.{_≡_, refl, sym, ap, ap₂, subst, _∙_}
+use mathlib.Core.Bool.{true}
+use mathlib.Core.List.{List, [], _∷_}
+use Prim.Native.Nat.{ℕ, zero, suc, _+_, _*_, _-_, _/_, _%_, _≤_, _<_}
+use native.Mathlib.Decide.{ℕ-discrete}
+use native.Mathlib.Omega.{arith}
+use lib.ListN.{length, take, drop, getD, set, length-take, length-drop, length-set, drop-of-length-le}
+use lib.Seq.{drop-cons, getD-set-same, getD-set-other, ext-getD}
+use Rattle.tables.specs.Table.{goodTable}
+use Rattle.executive.specs.declared.Agent.{Agent}
+use Rattle.executive.specs.State.{agentAt, startWords, regPlace}
+use Rattle.executive.specs.Step.{choiceReply, accepted}
+use Rattle.executive.specs.Registers.{around, listed, register, withRegs, ChoiceOutcome, chosen, nobody, chooseInto}
+use Rattle.executive.specs.Run.{RunOutcome, ended, runFrom}
+use Rattle.executive.proofs.Lists.{getD-part}
+use Rattle.executive.proofs.After.{accepted-length, accepted-other}
+use Rattle.executive.proofs.Runs.{run-go, run-stop, count-from-start}
+use Rattle.executive.proofs.Around.{listed-length, listed-at, around-length, around-own, around-around}
+use Rattle.executive.proofs.Choosing.{whole-length, whole-register, by-reply, chosen-low}
+
+-- ---- the choices left
+
+module _ (cs : List ℕ) (i : ℕ) where
+  pub two : i + 1 < length cs → drop i cs ≡ getD cs i 0 ∷ getD cs (i + 1) 0 ∷ drop (i + 2) cs
+  two h =
+      let e₁ : i + 1 ≡ suc i = omega arith in
+      let e₂ : i + 2 ≡ suc (suc i) = omega arith in
+      rw (e₁, e₂, drop-cons cs i 0 (omega arith), drop-cons cs (suc i) 0 (omega arith))
+
+  pub none-left : (tb st : List ℕ) (n : ℕ) → length cs ≤ i → runFrom tb st n (drop i cs) ≡ ended 0 n st
+  unfolding runFrom
+  none-left tb st n h = rw (drop-of-length-le cs {i = i} h)
+
+-- ---- one choice
+
+module _ (tb st : List ℕ) (g : List (List ℕ)) (a t : ℕ) where
+  reply-is : chooseInto tb st g a t .reply ≡ choiceReply tb (withRegs st g) a t
+  reply-is = go (choiceReply tb (withRegs st g) a t) refl
+    where
+      go : (r : ℕ) → choiceReply tb (withRegs st g) a t ≡ r → chooseInto tb st g a t .reply ≡ r
+      go zero h = ap (λ (o : ChoiceOutcome). o .reply) (by-reply tb st g a t zero h)
+      go (suc r) h = ap (λ (o : ChoiceOutcome). o .reply) (by-reply tb st g a t (suc r) h)
+
+  module _ (r : ℕ) (q : Agent) (ws : List ℕ) (e : chosen r q ws ≡ chooseInto tb st g a t) where
+    chosen-reply : choiceReply tb (withRegs st g) a t ≡ r
+    chosen-reply = sym (ap (λ (o : ChoiceOutcome). o .reply) e ∙ reply-is)
+
+    -- a refusal ends the run, and leaves the words
+    pub refused-run : (n : ℕ) (cs : List ℕ) → (r ≡ 0 → ⊥) → runFrom tb (withRegs st g) n (a ∷ t ∷ cs) ≡ ended r n (withRegs ws g)
+    refused-run n cs k = go r refl
+      where
+        go : (m : ℕ) → r ≡ m → runFrom tb (withRegs st g) n (a ∷ t ∷ cs) ≡ ended r n (withRegs ws g)
+        go zero z = absurd (k z)
+        go (suc m) z =
+            let s = ap (λ (o : ChoiceOutcome). o .state) (e ∙ by-reply tb st g a t (suc m) (chosen-reply ∙ z)) in
+            run-stop tb (withRegs st g) n a t cs m (chosen-reply ∙ z)
+            ∙ ap₂ (λ (x : ℕ) (l : List ℕ). ended x n (withRegs l g)) (sym z) (sym s)
+
+    -- an accepted one goes on with its agent's registers put in
+    module _ (z : r ≡ 0) (long : length st ≡ 1105) (wide : length g ≡ 16) (low : a < 16) where
+      abbrev after : List ℕ
+      after = accepted tb (withRegs st g) a t
+
+      after-length : length after ≡ 1105
+      after-length = accepted-length tb (withRegs st g) a t (whole-length st g long) low
+
+      own-length : length (take 64 (drop 17 st)) ≡ 64
+      own-length = simp (length-take, length-drop) (omega arith)
+
+      goes-on : chosen r q ws ≡ chosen 0 (agentAt after a) (around after (take 64 (drop 17 st)))
+      goes-on = e ∙ by-reply tb st g a t 0 (chosen-reply ∙ z)
+
+      agent-is : q ≡ agentAt after a
+      agent-is = ap (λ (o : ChoiceOutcome). o .agent) goes-on
+
+      words-are : ws ≡ around after (take 64 (drop 17 st))
+      words-are = ap (λ (o : ChoiceOutcome). o .state) goes-on
+
+      pub words-length : length ws ≡ 1105
+      words-length = ap length words-are ∙ around-length after (take 64 (drop 17 st)) (omega (arith, after-length)) own-length ∙ after-length
+
+      -- each register afterwards
+      registers-are : (i : ℕ) → i < 64 → register (set g a (agentAt after a .regs)) i ≡ getD after (17 + i) 0
+      registers-are i h = go (ℕ-discrete (i / 4) a)
+        where
+          go : Dec (i / 4 ≡ a) → register (set g a (agentAt after a .regs)) i ≡ getD after (17 + i) 0
+          go (yes d) =
+              let p : regPlace a + i % 4 ≡ 17 + i = omega arith in
+              ap (λ (k : ℕ). getD (getD (set g a (agentAt after a .regs)) k []) (i % 4) 0) d
+              ∙ ap (λ (l : List ℕ). getD l (i % 4) 0) (getD-set-same g a (agentAt after a .regs) [] (omega arith))
+              ∙ getD-part after 4 (regPlace a) (i % 4) (omega arith)
+              ∙ ap (λ (k : ℕ). getD after k 0) p
+          go (no n) =
+              ap (λ (l : List ℕ). getD l (i % 4) 0) (getD-set-other g a (i / 4) (agentAt after a .regs) [] n)
+              ∙ sym (whole-register st g long i h)
+              ∙ sym (accepted-other tb (withRegs st g) a t (whole-length st g long) low (17 + i) (λ d. omega arith) (λ d. omega arith)
+              (λ k l d. n (omega arith)) (λ d. omega arith) (λ d. omega arith))
+
+      listed-are : listed (register (set g a (agentAt after a .regs))) 64 ≡ take 64 (drop 17 after)
+      listed-are =
+          let x = set g a (agentAt after a .regs) in
+          let m = listed-length (register x) 64 in
+          let k : length (take 64 (drop 17 after)) ≡ 64 = simp (length-take, length-drop) (omega (arith, after-length)) in
+          ext-getD 0 (listed (register x) 64) (take 64 (drop 17 after)) (m ∙ sym k) (λ i h.
+          let l : i < 64 = omega arith in
+          listed-at (register x) 64 i 0 l ∙ registers-are i l ∙ sym (getD-part after 64 17 i l))
+
+      whole-after : withRegs ws (set g a (q .regs)) ≡ after
+      whole-after =
+          ap₂ (λ (l : List ℕ) (s : Agent). withRegs l (set g a (s .regs))) words-are agent-is
+          ∙ around-around after (take 64 (drop 17 st)) (listed (register (set g a (agentAt after a .regs))) 64) (omega (arith, after-length)) own-length
+          (listed-length (register (set g a (agentAt after a .regs))) 64)
+          ∙ ap (around after) listed-are
+          ∙ around-own after (omega (arith, after-length))
+
+      pub accepted-run : (n : ℕ) (cs : List ℕ) → runFrom tb (withRegs st g) n (a ∷ t ∷ cs) ≡ runFrom tb (withRegs ws (set g a (q .regs))) (n + 1) cs
+      accepted-run n cs = run-go tb (withRegs st g) n a t cs (chosen-reply ∙ z) ∙ ap (λ (l : List ℕ). runFrom tb l (n + 1) cs) (sym whole-after)
+
+-- ---- the count is at most 512
+
+pub count-least : (tb st : List ℕ) (n : ℕ) (cs : List ℕ) → n ≤ runFrom tb st n cs .count
+unfolding runFrom
+count-least tb st n [] = omega arith
+count-least tb st n (a ∷ []) = omega arith
+count-least tb st n (a ∷ t ∷ cs) = go (choiceReply tb st a t) refl (count-least tb (accepted tb st a t) (n + 1) cs)
+  where
+    go : (r : ℕ) → choiceReply tb st a t ≡ r → n + 1 ≤ runFrom tb (accepted tb st a t) (n + 1) cs .count → n ≤ runFrom tb st n (a ∷ t ∷ cs) .count
+    go zero h l = let e = ap (λ (o : RunOutcome). o .count) (run-go tb st n a t cs h) in omega arith
+    go (suc r) h l = let e = ap (λ (o : RunOutcome). o .count) (run-stop tb st n a t cs r h) in omega arith
+
+pub count-bound : (tb : List ℕ) → goodTable tb ≡ true → length tb ≡ 2129 → (cs st ds : List ℕ) (n : ℕ)
+    → runFrom tb st n ds ≡ runFrom tb (startWords tb) 0 cs → n ≤ 512
+count-bound tb good long cs st ds n e =
+    let b = count-from-start tb good long cs in
+    let l = count-least tb st n ds in
+    let q = ap (λ (o : RunOutcome). o .count) e in
+    omega arith
+
+-- ---- one turn of the loop over the choices cs: n are accepted, i words of cs are read, and what is left ends as the whole run does
+
+module _ (tb : List ℕ) (good : goodTable tb ≡ true) (long-tb : length tb ≡ 2129) (cs st : List ℕ) (g : List (List ℕ)) (i n : ℕ)
+    (long : length st ≡ 1105) (wide : length g ≡ 16) (left : runFrom tb (withRegs st g) n (drop i cs) ≡ runFrom tb (startWords tb) 0 cs)
+    (more : i + 1 < length cs) (r : ℕ) (q : Agent) (ws : List ℕ) (e : chosen r q ws ≡ chooseInto tb st g (getD cs i 0) (getD cs (i + 1) 0)) where
+  abbrev a : ℕ
+  a = getD cs i 0
+
+  abbrev t : ℕ
+  t = getD cs (i + 1) 0
+
+  left-two : runFrom tb (withRegs st g) n (a ∷ t ∷ drop (i + 2) cs) ≡ runFrom tb (startWords tb) 0 cs
+  left-two = ap (runFrom tb (withRegs st g) n) (sym (two cs i more)) ∙ left
+
+  pub turn-ends : (r ≡ 0 → ⊥) → ended r n (withRegs ws g) ≡ runFrom tb (startWords tb) 0 cs
+  turn-ends k = sym (refused-run tb st g a t r q ws e n (drop (i + 2) cs) k) ∙ left-two
+
+  module _ (z : r ≡ 0) where
+    pub turn-low : a < 16
+    turn-low = chosen-low tb (withRegs st g) good a t (chosen-reply tb st g a t r q ws e ∙ z)
+
+    pub turn-length : length ws ≡ 1105
+    turn-length = words-length tb st g a t r q ws e z long wide turn-low
+
+    pub turn-goes : runFrom tb (withRegs ws (set g a (q .regs))) (n + 1) (drop (i + 2) cs) ≡ runFrom tb (startWords tb) 0 cs
+    turn-goes = sym (accepted-run tb st g a t r q ws e z long wide turn-low n (drop (i + 2) cs)) ∙ left-two
+
+    pub turn-count : n + 1 ≤ 512
+    turn-count = count-bound tb good long-tb cs (withRegs ws (set g a (q .regs))) (drop (i + 2) cs) (n + 1) turn-goes

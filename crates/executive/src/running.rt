@@ -1,0 +1,46 @@
+// A run over a list of choices, from the start state of a good table.
+use crate::Ran;
+use crate::registers::{load_registers, store_registers};
+use crate::starting::put_start;
+use crate::stepping::choose;
+use tables::replies::ACCEPTED;
+ghost use mathlib.Core.Path.{_≡_};
+ghost use mathlib.Core.Bool.{true};
+ghost use Prim.Native.Nat.{_%_};
+ghost use lib.ListN.{length};
+ghost use Rattle.tables.specs.Layout.{tableWords};
+ghost use Rattle.tables.specs.Table.{goodTable};
+ghost use Rattle.executive.specs.State.{startWords, stateWords};
+ghost use Rattle.executive.specs.Run.{ended, runFrom};
+
+// The registers stand in a local until the run ends: the state's own are stored then.
+pub fn run_choices(table: &[u32], state: &mut [u32], choices: &[u32]) -> Ran
+    requires { ⌜ (length (now table) ≡ tableWords) × (length (now state) ≡ stateWords) × (goodTable (now table) ≡ true) × (length (now choices) % 2 ≡ 0) ⌝ }
+    ensures { λ r. ⌜ ended (r .reply) (r .count) (now (state .exit)) ≡ runFrom (now (table .entry)) (startWords (now (table .entry))) 0 (now (choices .entry)) ⌝ }
+{
+    put_start(table, state);
+    let mut regs = load_registers(state);
+    let mut count: u32 = 0;
+    let mut i = 0;
+    while i < choices.len() {
+        let a = choices[i];
+        let q = choose(table, state, regs, a, choices[i + 1]);
+        if q.reply != ACCEPTED {
+            store_registers(state, regs);
+            return Ran {
+                reply: q.reply,
+                count,
+            };
+        }
+        let agent = q.agent;
+        let own = agent.regs;
+        regs[a as usize] = own;
+        count += 1;
+        i += 2;
+    }
+    store_registers(state, regs);
+    Ran {
+        reply: ACCEPTED,
+        count,
+    }
+}
