@@ -36,18 +36,18 @@ pub fn table_end(input: &[u8]) -> TableEnd
     ensures { λ r. ⌜ (r .at ≡ tableBytes (lines (now (input .entry)))) × (r .lines ≡ length (lines (tableText (now (input .entry))))) × (r .at ≤ length (now (input .entry))) × (r .lines ≤ r .at) ⌝ }
 {
     let mut at = 0;
-    let mut n: u32 = 0;
+    let mut count: u32 = 0;
     while at < input.len() {
         if is_end(input, at) {
             return TableEnd {
                 at: at + 3,
-                lines: n + 1,
+                lines: count + 1,
             };
         }
         at = next_line(input, at);
-        n += 1;
+        count += 1;
     }
-    TableEnd { at, lines: n }
+    TableEnd { at, lines: count }
 }
 
 // Whether a choice line stands at this place.

@@ -14,10 +14,10 @@ use Rattle.traces.proofs.input.table_end.Statement.{statement}
 use Rattle.traces.proofs.input.table_end.Tie as tie
 
 abbrev Inv-loop : tie.InvT-loop
-Inv-loop input at₀ n₀ at n = (at ≤ length input) × (n ≤ at) × (at + tableBytes (lines (drop at input)) ≡ tableBytes (lines input)) × (n + length (lines (tableText (drop at input))) ≡ length (lines (tableText input)))
+Inv-loop input at₀ count₀ at count = (at ≤ length input) × (count ≤ at) × (at + tableBytes (lines (drop at input)) ≡ tableBytes (lines input)) × (count + length (lines (tableText (drop at input))) ≡ length (lines (tableText input)))
 
 abbrev μ-loop : tie.MeasureT-loop
-μ-loop input at₀ n₀ at n = length input - at
+μ-loop input at₀ count₀ at count = length input - at
 
 loop-holds : tie.Need-loop-holds Inv-loop μ-loop
 loop-holds c = (omega arith, omega arith, omega arith, omega arith)
@@ -47,8 +47,8 @@ returns c =
 next-line-requires : tie.Need-next-line-requires Inv-loop μ-loop
 next-line-requires c κs = search needs
 
-add-n : tie.Need-add-n Inv-loop μ-loop
-add-n c = search needs
+add-count : tie.Need-add-count Inv-loop μ-loop
+add-count c = search needs
 
 loop-less : tie.Need-loop-less Inv-loop μ-loop
 loop-less c =
@@ -91,7 +91,7 @@ table-end-spec =
     add-t8
     returns
     next-line-requires
-    add-n
+    add-count
     loop-less
     loop-again
     returns-2)
