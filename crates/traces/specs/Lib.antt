@@ -2,4 +2,5 @@
 pub mod Input
 pub mod Output
 pub mod Calls
+pub mod Places
 pub mod Cases

@@ -1,0 +1,10 @@
+-- Laws that the proofs of several functions cite.
+pub mod Writes
+pub mod Places
+pub mod Choices
+pub mod Steps
+pub mod Parts
+pub mod Chosen
+pub mod Going
+pub mod Whole
+pub mod Table

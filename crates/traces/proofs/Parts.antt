@@ -1,0 +1,92 @@
+-- The output by the parts of the input: its length, its table, its choice lines. Assumes nothing.
+use mathlib.Core.Path.{_≡_, refl, ap, _∙_}
+use mathlib.Core.List.{List, _++_, append-nil}
+use Prim.Native.Nat.{ℕ, zero, suc, _≤_, _<_}
+use native.Mathlib.Omega.{arith}
+use lib.ListN.{length, drop, replicate, length-replicate, drop-of-length-le}
+use borrow.Author.Tests.{lt-ltb, le-ltb}
+use Rattle.tables.specs.Layout.{tableWords}
+use Rattle.tables.specs.Frames.{Frame, framesOf}
+use Rattle.tables.specs.Reader.{told, framesReply, tableOf}
+use Rattle.tables.specs.Calls.{ReadOutcome, readOutcome, framesInto, readInto}
+use Rattle.tables.specs.declared.Told.{Told}
+use Rattle.executive.specs.State.{startWords}
+use Rattle.traces.specs.Input.{longestInput, tableText, choiceLines, badChoiceOf, choicesIn}
+use Rattle.traces.specs.Output.{Traced, traced, lastLine, traceFrom, traceChoices, traceTable, traceOf}
+
+-- ---- what a read gives does not go by what the buffer held
+
+module _ (text tb : List ℕ) (long : length tb ≡ tableWords) where
+  read-frames : readInto text tb ≡ framesInto tb (framesOf text)
+  unfolding readInto
+  read-frames = rw (le-ltb (length tb) tableWords (omega arith), readInto)
+
+  frames-by : (fs : List Frame) (r : ℕ) → framesReply fs .reply ≡ r
+      → framesInto tb fs ≡ elim r [ zero ↦ readOutcome (framesReply fs) (tableOf fs ++ drop tableWords tb) | suc r ↦ readOutcome (framesReply fs) tb ]
+  unfolding framesInto
+  frames-by fs r h =
+      ap (λ (x : ℕ). elim x as (λ _. ReadOutcome) [ zero ↦ readOutcome (framesReply fs) (tableOf fs ++ drop tableWords tb) | suc r ↦ readOutcome (framesReply fs) tb ]) h
+
+  pub read-told : readInto text tb .told ≡ framesReply (framesOf text)
+  read-told = ap (λ (q : ReadOutcome). q .told) read-frames ∙ go (framesReply (framesOf text) .reply) refl
+    where
+      go : (r : ℕ) → framesReply (framesOf text) .reply ≡ r → framesInto tb (framesOf text) .told ≡ framesReply (framesOf text)
+      go zero h = ap (λ (q : ReadOutcome). q .told) (frames-by (framesOf text) zero h)
+      go (suc r) h = ap (λ (q : ReadOutcome). q .told) (frames-by (framesOf text) (suc r) h)
+
+  pub read-table : framesReply (framesOf text) .reply ≡ 0 → readInto text tb .table ≡ tableOf (framesOf text)
+  read-table h =
+      ap (λ (q : ReadOutcome). q .table) (read-frames ∙ frames-by (framesOf text) zero h)
+      ∙ ap (λ (l : List ℕ). tableOf (framesOf text) ++ l) (drop-of-length-le tb {i = tableWords} (omega arith))
+      ∙ append-nil (tableOf (framesOf text))
+
+-- ---- the output, by what comes first
+
+pub trace-long : (input : List ℕ) → longestInput < length input → traceOf input ≡ traced 17 (lastLine 17 0)
+unfolding traceOf
+trace-long input h = rw (lt-ltb longestInput (length input) h, traceOf)
+
+-- a table with its reply, and then the first malformed choice line
+table-by : (q : Told) (tb input : List ℕ) (r : ℕ) → q .reply ≡ r
+    → traceTable q tb input ≡ elim r [ zero ↦ traceChoices tb input | suc r ↦ traced (suc r) (lastLine (suc r) (q .line)) ]
+unfolding traceTable
+table-by q tb input r h = ap (λ (x : ℕ). elim x as (λ _. Traced) [ zero ↦ traceChoices tb input | suc r ↦ traced (suc r) (lastLine (suc r) (q .line)) ]) h
+
+choices-by : (tb input : List ℕ) (n : ℕ) → badChoiceOf input ≡ n
+    → traceChoices tb input ≡ elim n [ zero ↦ traceFrom tb (startWords tb) 0 (choicesIn (choiceLines input)) | suc n ↦ traced 2 (lastLine 2 (suc n)) ]
+unfolding traceChoices
+choices-by tb input n h =
+    ap (λ (x : ℕ). elim x as (λ _. Traced) [ zero ↦ traceFrom tb (startWords tb) 0 (choicesIn (choiceLines input)) | suc n ↦ traced 2 (lastLine 2 (suc n)) ]) h
+
+module _ (input : List ℕ) (short : length input ≤ longestInput) where
+  blank : List ℕ
+  blank = replicate tableWords 0
+
+  frames : List Frame
+  frames = framesOf (tableText input)
+
+  trace-table : traceOf input ≡ traceTable (framesReply frames) (readInto (tableText input) blank .table) input
+  unfolding traceOf blank frames
+  trace-table =
+      rw (le-ltb longestInput (length input) short, traceOf)
+      (ap (λ (q : Told). traceTable q (readInto (tableText input) blank .table) input) (read-told (tableText input) blank (length-replicate {A = ℕ} tableWords 0)))
+
+  pub trace-refused : (r : ℕ) → framesReply (framesOf (tableText input)) .reply ≡ suc r
+      → traceOf input ≡ traced (suc r) (lastLine (suc r) (framesReply (framesOf (tableText input)) .line))
+  unfolding frames
+  trace-refused r h = trace-table ∙ table-by (framesReply frames) (readInto (tableText input) blank .table) input (suc r) h
+
+  module _ (h : framesReply (framesOf (tableText input)) .reply ≡ 0) where
+    trace-choices : traceOf input ≡ traceChoices (tableOf (framesOf (tableText input))) input
+    unfolding frames blank
+    trace-choices =
+        trace-table
+        ∙ table-by (framesReply frames) (readInto (tableText input) blank .table) input 0 h
+        ∙ ap (λ (tb : List ℕ). traceChoices tb input) (read-table (tableText input) blank (length-replicate {A = ℕ} tableWords 0) h)
+
+    pub trace-malformed : (n : ℕ) → badChoiceOf input ≡ suc n → traceOf input ≡ traced 2 (lastLine 2 (suc n))
+    trace-malformed n e = trace-choices ∙ choices-by (tableOf (framesOf (tableText input))) input (suc n) e
+
+    pub trace-steps : badChoiceOf input ≡ 0
+        → traceOf input ≡ traceFrom (tableOf (framesOf (tableText input))) (startWords (tableOf (framesOf (tableText input)))) 0 (choicesIn (choiceLines input))
+    trace-steps e = trace-choices ∙ choices-by (tableOf (framesOf (tableText input))) input 0 e

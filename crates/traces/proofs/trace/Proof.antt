@@ -1,0 +1,177 @@
+-- `trace` meets its contract: a law for each return, by what the input is refused for first. Assumes nothing.
+use mathlib.Core.Path.{_≡_, sym, ap, _∙_}
+use mathlib.Core.List.{List}
+use Prim.Native.Nat.{ℕ, _-_}
+use native.Mathlib.Nat.{le-of-eq}
+use lib.ListN.{length, take, drop, length-drop}
+use lib.Seq.{take-all, length-take-le}
+use Rattle.tables.specs.Lines.{lines}
+use Rattle.executive.specs.State.{startWords}
+use Rattle.traces.specs.Input.{choicesIn, badChoice}
+use Rattle.traces.specs.Output.{traceFrom}
+use Rattle.traces.proofs.Parts.{trace-long}
+use Rattle.traces.proofs.Whole.{too-short, done, one-line}
+use Rattle.traces.proofs.Table.{table-refused, table-good, table-words, choice-malformed, none-malformed, all-steps}
+use borrow.Author.Needs.{needs}
+use Rattle.traces.proofs.trace.Statement.{statement}
+use Rattle.traces.proofs.trace.Tie as tie
+
+-- the part of a slice from a place to its end
+to-end : (l : List ℕ) (n : ℕ) → take (length l - n) (drop n l) ≡ drop n l
+to-end l n = take-all (length l - n) (drop n l) (le-of-eq (length-drop n l))
+
+returns : tie.Need-returns
+returns c = let p = c .before .before .before .args in too-short (p .input .now) (p .out .now) (c .if1 .taken)
+
+finish-requires : tie.Need-finish-requires
+finish-requires c κs = search needs
+
+same-length : tie.Need-same-length
+same-length c = search needs
+
+returns-2 : tie.Need-returns-2
+returns-2 c =
+    let p = c .before .before .before .before .before .before .before .before .args in
+    let f = c .before .before .finish in
+    one-line (p .input .now) (p .out .now) (f .result .reply) (f .result .length) (f .last .0) (c .before .before .before .before .before .if1 .left) 17 0
+    (trace-long (p .input .now) (c .before .before .before .before .if2 .taken)) (f .ensures)
+
+table-end-requires : tie.Need-table-end-requires
+table-end-requires c κs = search needs
+
+blank-table-requires : tie.Need-blank-table-requires
+blank-table-requires c κs = search needs
+
+slice-aggregate-read : tie.Need-slice-aggregate-read
+slice-aggregate-read c = sym (length-take-le _ _ (c .before .before .table-end .ensures .2))
+
+slice-aggregate-read-2 : tie.Need-slice-aggregate-read-2
+slice-aggregate-read-2 c = search needs
+
+read-requires : tie.Need-read-requires
+read-requires c κs = search needs
+
+finish-requires-2 : tie.Need-finish-requires-2
+finish-requires-2 c κs = search needs
+
+same-length-2 : tie.Need-same-length-2
+same-length-2 c = search needs
+
+returns-3 : tie.Need-returns-3
+returns-3 c =
+    let p = c .before .before .before .before .before .before .before .before .before .before .before .before .before .before .before .before .args in
+    let input = p .input .now in
+    let long = c .before .before .before .before .before .before .before .before .before .before .before .before .before .if1 .left in
+    let short = c .before .before .before .before .before .before .before .before .before .before .before .before .if2 .left in
+    let end = c .before .before .before .before .before .before .before .before .before .before .before .table-end in
+    let blank = c .before .before .before .before .before .before .before .before .before .before .blank-table in
+    let q = c .before .before .before .before .before .before .before .read in
+    let f = c .before .before .finish2 in
+    one-line input (p .out .now) (f .result .reply) (f .result .length) (f .last .0) long (q .result .reply) (q .result .line)
+    (table-refused input short (end .result .at) (end .ensures .0) (blank .result) (blank .ensures) (q .result) (q .last .1 .0) (q .ensures) (c .before .before .before .before .if3 .taken)) (f .ensures)
+
+add-first-bad-choice : tie.Need-add-first-bad-choice
+add-first-bad-choice c = search needs
+
+first-bad-choice-requires : tie.Need-first-bad-choice-requires
+first-bad-choice-requires c κs = search needs
+
+finish-requires-3 : tie.Need-finish-requires-3
+finish-requires-3 c κs = search needs
+
+same-length-3 : tie.Need-same-length-3
+same-length-3 c = search needs
+
+returns-4 : tie.Need-returns-4
+returns-4 c =
+    let p = c .before .before .before .before .before .before .before .before .before .before .before .before .before .before .before .before .before .before .before .args in
+    let input = p .input .now in
+    let long = c .before .before .before .before .before .before .before .before .before .before .before .before .before .before .before .before .if1 .left in
+    let short = c .before .before .before .before .before .before .before .before .before .before .before .before .before .before .before .if2 .left in
+    let end = c .before .before .before .before .before .before .before .before .before .before .before .before .before .before .table-end in
+    let blank = c .before .before .before .before .before .before .before .before .before .before .before .before .before .blank-table in
+    let q = c .before .before .before .before .before .before .before .before .before .before .read in
+    let f = c .before .before .finish3 in
+    let b = c .before .before .before .before .before .first-bad-choice in
+    one-line input (p .out .now) (f .result .reply) (f .result .length) (f .last .0) long 2 (b .result)
+    (choice-malformed input short (end .result .at) (end .ensures .0) (blank .result) (blank .ensures) (q .result) (q .last .1 .0) (q .ensures) (c .before .before .before .before .before .before .before .if3 .left) (end .result .lines) (b .result) (end .ensures .1) (b .ensures) (c .before .before .before .before .if4 .taken)) (f .ensures)
+
+sub-trace-steps : tie.Need-sub-trace-steps
+sub-trace-steps c = search needs
+
+part-trace-steps-start : tie.Need-part-trace-steps-start
+part-trace-steps-start c = search needs
+
+part-trace-steps-end : tie.Need-part-trace-steps-end
+part-trace-steps-end c = search needs
+
+slice-aggregate-trace-steps : tie.Need-slice-aggregate-trace-steps
+slice-aggregate-trace-steps c = search needs
+
+trace-steps-requires : tie.Need-trace-steps-requires
+trace-steps-requires c κs =
+    let p = c .before .before .before .before .before .before .before .before .before .before .before .before .before .before .before .before .before .before .args in
+    let input = p .input .now in
+    let long = c .before .before .before .before .before .before .before .before .before .before .before .before .before .before .before .if1 .left in
+    let short = c .before .before .before .before .before .before .before .before .before .before .before .before .before .before .if2 .left in
+    let end = c .before .before .before .before .before .before .before .before .before .before .before .before .before .table-end in
+    let blank = c .before .before .before .before .before .before .before .before .before .before .before .before .blank-table in
+    let q = c .before .before .before .before .before .before .before .before .before .read in
+    let b = c .before .before .before .before .first-bad-choice in
+    let z = c .before .before .before .before .before .before .if3 .left in (
+      table-words input short (end .result .at) (end .ensures .0) (blank .result) (blank .ensures) (q .result) (q .last .1 .0) (q .ensures) z,
+      table-good input short (end .result .at) (end .ensures .0) (blank .result) (blank .ensures) (q .result) (q .last .1 .0) (q .ensures) z,
+      ap (λ (l : List ℕ). badChoice 1 (lines l)) (to-end input (end .result .at))
+          ∙ none-malformed input short (end .result .at) (end .ensures .0) (blank .result) (blank .ensures) (q .result) (q .last .1 .0) (q .ensures) z (end .result .lines) (b .result) (end .ensures .1) (b .ensures) (c .before .before .before .if4 .left),
+      long,
+    )
+
+same-length-4 : tie.Need-same-length-4
+same-length-4 c = search needs
+
+returns-5 : tie.Need-returns-5
+returns-5 c =
+    let p = c .before .before .before .before .before .before .before .before .before .before .before .before .before .before .before .before .before .before .before .before .before .args in
+    let input = p .input .now in
+    let long = c .before .before .before .before .before .before .before .before .before .before .before .before .before .before .before .before .before .before .if1 .left in
+    let short = c .before .before .before .before .before .before .before .before .before .before .before .before .before .before .before .before .before .if2 .left in
+    let end = c .before .before .before .before .before .before .before .before .before .before .before .before .before .before .before .before .table-end in
+    let blank = c .before .before .before .before .before .before .before .before .before .before .before .before .before .before .before .blank-table in
+    let q = c .before .before .before .before .before .before .before .before .before .before .before .before .read in
+    let f = c .before .before .trace-steps in
+    let b = c .before .before .before .before .before .before .before .first-bad-choice in
+    let tb = q .last .1 .0 in
+    let cs = take (length input - end .result .at) (drop (end .result .at) input) in
+    done input (p .out .now) (f .result .reply) (f .result .length) (f .last .1 .1 .0) long (traceFrom tb (startWords tb) 0 (choicesIn (lines cs)))
+    (all-steps input short (end .result .at) (end .ensures .0) (blank .result) (blank .ensures) (q .result) (q .last .1 .0) (q .ensures) (c .before .before .before .before .before .before .before .before .before .if3 .left) (end .result .lines) (b .result) (end .ensures .1) (b .ensures) (c .before .before .before .before .before .before .if4 .left)
+    ∙ ap (λ (l : List ℕ). traceFrom tb (startWords tb) 0 (choicesIn (lines l))) (sym (to-end input (end .result .at))))
+    (f .ensures)
+
+pub trace-spec : {M : Type 1} → statement M
+trace-spec =
+    tie.close
+    (tie.spec
+    returns
+    finish-requires
+    same-length
+    returns-2
+    table-end-requires
+    blank-table-requires
+    slice-aggregate-read
+    slice-aggregate-read-2
+    read-requires
+    finish-requires-2
+    same-length-2
+    returns-3
+    add-first-bad-choice
+    first-bad-choice-requires
+    finish-requires-3
+    same-length-3
+    returns-4
+    sub-trace-steps
+    part-trace-steps-start
+    part-trace-steps-end
+    slice-aggregate-trace-steps
+    trace-steps-requires
+    same-length-4
+    returns-5)

@@ -1,0 +1,69 @@
+// The choice lines of an input, one step after the other, and the output's last line.
+use crate::TraceReply;
+use crate::writing::put_last_line;
+use crate::writing::put_step_line;
+use executive::registers::load_registers;
+use executive::starting::put_start;
+use executive::stepping::choose;
+use tables::frames::field;
+use tables::replies::ACCEPTED;
+ghost use mathlib.Core.Path.{_≡_};
+ghost use mathlib.Core.Bool.{true};
+ghost use Prim.Native.Nat.{_+_, _≤_};
+ghost use lib.ListN.{length};
+ghost use Rattle.tables.specs.Layout.{tableWords};
+ghost use Rattle.tables.specs.Lines.{lines};
+ghost use Rattle.tables.specs.Table.{goodTable};
+ghost use Rattle.executive.specs.State.{stateWords, startWords};
+ghost use Rattle.traces.specs.Input.{badChoice, choicesIn};
+ghost use Rattle.traces.specs.Output.{traced, lastLine, traceFrom};
+ghost use Rattle.traces.specs.Calls.{traceOutcome, longestOutput, written};
+ghost use Rattle.traces.specs.Places.{placed};
+
+// The last line, after the step lines that end at this place.
+pub fn finish(out: &mut [u8], at: usize, reply: u32, n: u32) -> TraceReply
+    requires { ⌜ at + 9 ≤ length (now out) ⌝ }
+    ensures { λ r. ⌜ traceOutcome (r .reply) (r .length) (now (out .exit)) ≡ placed (traced reply (lastLine reply n)) at (now (out .entry)) ⌝ }
+{
+    put_last_line(out, at, reply, n);
+    TraceReply {
+        reply,
+        length: at + 9,
+    }
+}
+
+// A state of some words: the start state replaces them all.
+fn blank_state() -> [u32; 1105]
+    ensures { λ r. ⌜ length r ≡ stateWords ⌝ }
+{
+    [0; 1105]
+}
+
+// The steps of the choice lines, none of which is malformed, from the start state of a good table.
+pub fn trace_steps(choices: &[u8], table: &[u32], out: &mut [u8]) -> TraceReply
+    requires { ⌜ (length (now table) ≡ tableWords) × (goodTable (now table) ≡ true) × (badChoice 1 (lines (now choices)) ≡ 0) × (longestOutput ≤ length (now out)) ⌝ }
+    ensures { λ r. ⌜ traceOutcome (r .reply) (r .length) (now (out .exit)) ≡ written (traceFrom (now (table .entry)) (startWords (now (table .entry))) 0 (choicesIn (lines (now (choices .entry))))) (now (out .entry)) ⌝ }
+{
+    let mut state = blank_state();
+    put_start(table, &mut state);
+    let mut regs = load_registers(&state);
+    let mut n: u32 = 0;
+    let mut at = 0;
+    let mut end = 0;
+    while at < choices.len() {
+        let a = field(choices, at + 2, 2);
+        let t = field(choices, at + 4, 8);
+        let chosen = choose(table, &mut state, regs, a, t);
+        if chosen.reply != ACCEPTED {
+            return finish(out, end, chosen.reply, n);
+        }
+        let agent = chosen.agent;
+        let own = agent.regs;
+        regs[a as usize] = own;
+        put_step_line(out, end, a, t, agent);
+        n += 1;
+        at += 13;
+        end += 47;
+    }
+    finish(out, end, ACCEPTED, n)
+}

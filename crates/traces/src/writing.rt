@@ -1,0 +1,67 @@
+// Text of upper-case hexadecimal digits, put into a lent buffer from a place on.
+use executive::Agent;
+ghost use mathlib.Core.Path.{_≡_};
+ghost use Prim.Native.Nat.{_+_, _≤_, _<_};
+ghost use lib.ListN.{length};
+ghost use lib.Seq.{sets};
+ghost use Rattle.traces.specs.Output.{hexChar, hexDigits, hexWords, stepLine, lastLine};
+
+// The upper-case hexadecimal digit of a number below 16.
+fn hex_char(d: u32) -> u8
+    requires { ⌜ d < 16 ⌝ }
+    ensures { λ r. ⌜ r ≡ hexChar d ⌝ }
+{
+    if d < 10 {
+        return (48 + d) as u8;
+    }
+    (55 + d) as u8
+}
+
+// The k lowest digits of m, the highest first.
+fn put_hex(out: &mut [u8], at: usize, k: usize, m: u32)
+    requires { ⌜ at + k ≤ length (now out) ⌝ }
+    ensures { λ _. ⌜ now (out .exit) ≡ sets (now (out .entry)) at (hexDigits k m) ⌝ }
+{
+    let mut i = k;
+    let mut v = m;
+    while 0 < i {
+        i -= 1;
+        out[at + i] = hex_char(v % 16);
+        v = v / 16;
+    }
+}
+
+// Four registers. (That they are four is what a caller has to know of an agent's list.)
+fn put_words(out: &mut [u8], at: usize, ws: [u32; 4])
+    requires { ⌜ at + 32 ≤ length (now out) ⌝ }
+    ensures { λ _. ⌜ (now (out .exit) ≡ sets (now (out .entry)) at (hexWords ws)) × (length ws ≡ 4) ⌝ }
+{
+    for i in 0..4 {
+        put_hex(out, at + 8 * i, 8, ws[i]);
+    }
+}
+
+// The line of an accepted step: s is agent a's state after it.
+pub fn put_step_line(out: &mut [u8], at: usize, a: u32, t: u32, s: Agent)
+    requires { ⌜ at + 47 ≤ length (now out) ⌝ }
+    ensures { λ _. ⌜ now (out .exit) ≡ sets (now (out .entry)) at (stepLine a t s) ⌝ }
+{
+    let regs = s.regs;
+    put_hex(out, at, 2, 0x03);
+    put_hex(out, at + 2, 2, a);
+    put_hex(out, at + 4, 2, s.pos);
+    put_hex(out, at + 6, 8, t);
+    put_words(out, at + 14, regs);
+    out[at + 46] = b'\n';
+}
+
+// The last line.
+pub fn put_last_line(out: &mut [u8], at: usize, reply: u32, n: u32)
+    requires { ⌜ at + 9 ≤ length (now out) ⌝ }
+    ensures { λ _. ⌜ now (out .exit) ≡ sets (now (out .entry)) at (lastLine reply n) ⌝ }
+{
+    put_hex(out, at, 2, 0xFE);
+    put_hex(out, at + 2, 2, reply);
+    put_hex(out, at + 4, 4, n);
+    out[at + 8] = b'\n';
+}
