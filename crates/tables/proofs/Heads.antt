@@ -136,6 +136,25 @@ module _ (text : List ℕ) (p : ℕ) where
       go [] e = refl
       go (l ∷ ls) e = ap (λ (f : Frame). headLine (f ∷ map frameOf ls)) (neither (drop p text) l ls e h k)
 
+-- ---- a line of n digits at place p: its room, its digits, and what reading a field of it asks
+
+module _ (n : ℕ) (text : List ℕ) (p : ℕ) (x : digitsAt n text p ≡ true) where
+  pub digits-room : p ≤ length text → p + (n + 1) ≤ length text
+  unfolding digitsAt
+  digits-room i =
+      let w : n + 1 ≡ min (n + 1) (length text - p) = simp (length-take, length-drop) at (sym (line-length n (take (n + 1) (drop p text)) x)) in omega arith
+
+  digits-hex : allHex (take n (drop p text)) ≡ true
+  unfolding digitsAt
+  digits-hex = sym (ap allHex (take-take n (n + 1) (drop p text) (omega arith))) ∙ line-hex n (take (n + 1) (drop p text)) x
+
+  pub field-asks : (q i k : ℕ) → q ≡ p + i → p ≤ length text → i + k ≤ n → k ≤ 8
+      → (q + k ≤ length text) × (k ≤ 8) × (allHex (take k (drop q text)) ≡ true)
+  field-asks q i k e r h j =
+      let w = digits-room r in
+      let d : drop q text ≡ drop i (drop p text) = ap (λ (m : ℕ). drop m text) e ∙ sym (drop-drop i p text) in
+      (omega arith, j, ap (λ (l : List ℕ). allHex (take k l)) d ∙ hex-part (drop p text) n i k digits-hex h)
+
 -- ---- what a line that is no end and not malformed tells: its frame, its room, its digits
 
 pub record Framed (text : List ℕ) (p : ℕ) (f : Frame) : Type 0 where
@@ -164,15 +183,6 @@ kind-frame k a ws = go (eqb k 0) (eqb k 1)
     go false false = refl
 
 module _ (text : List ℕ) (p : ℕ) where
-  digits-room : digitsAt 36 text p ≡ true → p ≤ length text → p + 37 ≤ length text
-  unfolding digitsAt
-  digits-room h i =
-      let w : 37 ≡ min 37 (length text - p) = simp (length-take, length-drop) at (sym (line-length 36 (take 37 (drop p text)) h)) in omega arith
-
-  digits-hex : digitsAt 36 text p ≡ true → allHex (take 36 (drop p text)) ≡ true
-  unfolding digitsAt
-  digits-hex h = sym (ap allHex (take-take 36 37 (drop p text) (omega arith))) ∙ line-hex 36 (take 37 (drop p text)) h
-
   pub framed : p ≤ length text → (ln : Line) → lineAt text p ≡ ln → full ln ≡ true → Framed text p (frameWith ln (wordsAt text p))
   framed i ln e k = go (endAt text p) refl (digitsAt 36 text p) refl
     where
@@ -190,7 +200,7 @@ module _ (text : List ℕ) (p : ℕ) where
                 (λ (f : Frame). f ∷ framesOf (drop (p + 37) text))
                 (kind-frame (field text p 2) (field text (p + 2) 2) (wordsAt text p)
                 ∙ ap (λ (l : Line). frameWith l (wordsAt text p)) (sym (line-digits text p r) ∙ e));
-            room = digits-room r i;
+            room = digits-room 36 text p r i;
             digits = r;
           }
 
@@ -221,11 +231,3 @@ module _ (text : List ℕ) (p : ℕ) where
 
   pub ended-room : p ≤ length text → lineAt text p ≡ Ends → p + 3 ≤ length text
   ended-room i e = end-room (ends-at e) i
-
--- what reading a field of such a line asks
-pub field-asks : (text : List ℕ) (p q i k : ℕ) → q ≡ p + i → p ≤ length text → digitsAt 36 text p ≡ true → i + k ≤ 36 → k ≤ 8
-    → (q + k ≤ length text) × (k ≤ 8) × (allHex (take k (drop q text)) ≡ true)
-field-asks text p q i k e r x h j =
-    let w = digits-room text p x r in
-    let d : drop q text ≡ drop i (drop p text) = ap (λ (n : ℕ). drop n text) e ∙ sym (drop-drop i p text) in
-    (omega arith, j, ap (λ (l : List ℕ). allHex (take k l)) d ∙ hex-part (drop p text) 36 i k (digits-hex text p x) h)

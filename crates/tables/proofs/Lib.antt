@@ -17,3 +17,4 @@ pub mod Outcomes
 pub mod Stores
 pub mod Growing
 pub mod ReadGood
+pub mod Bounds
