@@ -22,3 +22,4 @@ pub mod Grids
 pub mod Front
 pub mod Outcomes
 pub mod RunOn
+pub mod Marks

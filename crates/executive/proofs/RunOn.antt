@@ -5,13 +5,14 @@ use mathlib.Core.List.{List, [], _∷_}
 use Prim.Native.Nat.{ℕ, zero, suc, _+_, _*_, _-_, _/_, _%_, _≤_, _<_}
 use native.Mathlib.Decide.{ℕ-discrete}
 use native.Mathlib.Omega.{arith}
+use borrow.Author.Tests.{eq-eqb, ne-eqb}
 use lib.ListN.{length, take, drop, getD, set, length-take, length-drop, length-set, drop-of-length-le}
 use lib.Seq.{drop-cons, getD-set-same, getD-set-other, ext-getD}
 use Rattle.tables.specs.Table.{goodTable}
 use Rattle.executive.specs.declared.Agent.{Agent}
 use Rattle.executive.specs.State.{agentAt, startWords, regPlace}
 use Rattle.executive.specs.Step.{choiceReply, accepted}
-use Rattle.executive.specs.Registers.{around, listed, register, withRegs, ChoiceOutcome, chosen, nobody, chooseInto}
+use Rattle.executive.specs.Registers.{around, listed, register, withRegs, ChoiceOutcome, chosen, nobody, chooseInto, wordsAfter}
 use Rattle.executive.specs.Run.{RunOutcome, ended, runFrom}
 use Rattle.executive.proofs.Lists.{getD-part}
 use Rattle.executive.proofs.After.{accepted-length, accepted-other}
@@ -43,19 +44,25 @@ module _ (tb st : List ℕ) (g : List (List ℕ)) (a t : ℕ) where
       go (suc r) h = ap (λ (o : ChoiceOutcome). o .reply) (by-reply tb st g a t (suc r) h)
 
   module _ (r : ℕ) (q : Agent) (ws : List ℕ) (e : chosen r q ws ≡ chooseInto tb st g a t) where
-    chosen-reply : choiceReply tb (withRegs st g) a t ≡ r
+    pub chosen-reply : choiceReply tb (withRegs st g) a t ≡ r
     chosen-reply = sym (ap (λ (o : ChoiceOutcome). o .reply) e ∙ reply-is)
 
-    -- a refusal ends the run, and leaves the words
+    -- a refusal leaves the words, and ends the run
+    pub refused-words : (r ≡ 0 → ⊥) → ws ≡ st
+    refused-words k = go r refl
+      where
+        go : (m : ℕ) → r ≡ m → ws ≡ st
+        go zero z = absurd (k z)
+        go (suc m) z = ap (λ (o : ChoiceOutcome). o .state) (e ∙ by-reply tb st g a t (suc m) (chosen-reply ∙ z))
+
     pub refused-run : (n : ℕ) (cs : List ℕ) → (r ≡ 0 → ⊥) → runFrom tb (withRegs st g) n (a ∷ t ∷ cs) ≡ ended r n (withRegs ws g)
     refused-run n cs k = go r refl
       where
         go : (m : ℕ) → r ≡ m → runFrom tb (withRegs st g) n (a ∷ t ∷ cs) ≡ ended r n (withRegs ws g)
         go zero z = absurd (k z)
         go (suc m) z =
-            let s = ap (λ (o : ChoiceOutcome). o .state) (e ∙ by-reply tb st g a t (suc m) (chosen-reply ∙ z)) in
             run-stop tb (withRegs st g) n a t cs m (chosen-reply ∙ z)
-            ∙ ap₂ (λ (x : ℕ) (l : List ℕ). ended x n (withRegs l g)) (sym z) (sym s)
+            ∙ ap₂ (λ (x : ℕ) (l : List ℕ). ended x n (withRegs l g)) (sym z) (sym (refused-words k))
 
     -- an accepted one goes on with its agent's registers put in
     module _ (z : r ≡ 0) (long : length st ≡ 1105) (wide : length g ≡ 16) (low : a < 16) where
@@ -106,7 +113,7 @@ module _ (tb st : List ℕ) (g : List (List ℕ)) (a t : ℕ) where
           let l : i < 64 = omega arith in
           listed-at (register x) 64 i 0 l ∙ registers-are i l ∙ sym (getD-part after 64 17 i l))
 
-      whole-after : withRegs ws (set g a (q .regs)) ≡ after
+      pub whole-after : withRegs ws (set g a (q .regs)) ≡ after
       whole-after =
           ap₂ (λ (l : List ℕ) (s : Agent). withRegs l (set g a (s .regs))) words-are agent-is
           ∙ around-around after (take 64 (drop 17 st)) (listed (register (set g a (agentAt after a .regs))) 64) (omega (arith, after-length)) own-length
@@ -116,6 +123,21 @@ module _ (tb st : List ℕ) (g : List (List ℕ)) (a t : ℕ) where
 
       pub accepted-run : (n : ℕ) (cs : List ℕ) → runFrom tb (withRegs st g) n (a ∷ t ∷ cs) ≡ runFrom tb (withRegs ws (set g a (q .regs))) (n + 1) cs
       accepted-run n cs = run-go tb (withRegs st g) n a t cs (chosen-reply ∙ z) ∙ ap (λ (l : List ℕ). runFrom tb l (n + 1) cs) (sym whole-after)
+
+-- ---- one step, the registers put back at once
+
+module _ (tb st : List ℕ) (g : List (List ℕ)) (a t r : ℕ) (q : Agent) (ws : List ℕ) (loaded : withRegs st g ≡ st) (e : chosen r q ws ≡ chooseInto tb st g a t) where
+  pub step-reply : r ≡ choiceReply tb st a t
+  step-reply = sym (chosen-reply tb st g a t r q ws e) ∙ ap (λ (l : List ℕ). choiceReply tb l a t) loaded
+
+  pub step-refused : (r ≡ 0 → ⊥) → ws ≡ wordsAfter tb st a t
+  unfolding wordsAfter
+  step-refused k = rw (← step-reply, ne-eqb r 0 k) (refused-words tb st g a t r q ws e k)
+
+  pub step-accepted : r ≡ 0 → length st ≡ 1105 → length g ≡ 16 → a < 16 → withRegs ws (set g a (q .regs)) ≡ wordsAfter tb st a t
+  unfolding wordsAfter
+  step-accepted z long wide low =
+      rw (← step-reply, eq-eqb r 0 z) (whole-after tb st g a t r q ws e z long wide low ∙ ap (λ (l : List ℕ). accepted tb l a t) loaded)
 
 -- ---- the count is at most 512
 

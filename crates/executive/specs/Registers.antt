@@ -1,6 +1,8 @@
 -- While steps are worked out the registers of all agents stand beside the state's words, which keep the words that they had. Assumes nothing.
+use mathlib.Core.Bool.{cond}
 use mathlib.Core.List.{List, [], _∷_, _++_}
 use Prim.Native.Nat.{ℕ, zero, suc, _/_, _%_}
+use lib.Dec.{eqb}
 use lib.ListN.{getD, take, drop}
 use Rattle.executive.specs.declared.Agent.{Agent}
 use Rattle.executive.specs.State.{agentAt}
@@ -44,3 +46,7 @@ chooseInto tb st g a t =
       | zero ↦ chosen 0 (agentAt (accepted tb full a t) a) (around (accepted tb full a t) (take 64 (drop 17 st)))
       | suc r ↦ chosen (suc r) nobody st
     ]
+
+-- the state's words after a choice: as they were where it is refused
+unfoldable pub wordsAfter : (tb st : List ℕ) (a t : ℕ) → List ℕ
+wordsAfter tb st a t = cond (eqb (choiceReply tb st a t) 0) (accepted tb st a t) st

@@ -11,7 +11,8 @@ use Rattle.tables.specs.Lines.{newline, lines, same, allHex, number, field, dig
 use Rattle.tables.specs.Heads.{digitsAt}
 use Rattle.tables.proofs.Lines.{same-eq, hex-part}
 use Rattle.tables.proofs.Passed.{and-1, and-2}
-use Rattle.tables.proofs.Heads.{lines-digits, field-from}
+use Rattle.tables.proofs.Newlines.{lines-digits}
+use Rattle.tables.proofs.Heads.{field-from}
 use Rattle.traces.specs.Input.{goodChoice, badChoice, choicesIn}
 use Rattle.traces.specs.Places.{lineLength, choiceAt}
 use Rattle.traces.proofs.Places.{first-line}

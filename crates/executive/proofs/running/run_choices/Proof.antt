@@ -110,8 +110,7 @@ loop-again c =
     let g = c .before .before .before .before .before .before .before .before .before .before .before .before .before .before .before .before .before .before .before .before .before in
     let l = c .before .before .before .before .before .before .before .before .before .before .before .loop in
     let d = c .before .before .before .before .before .before .choose in
-    let more : l .i + 1 < length (g .args .choices .now) = omega arith in
-    (
+    let more : l .i + 1 < length (g .args .choices .now) = omega arith in (
       omega arith,
       omega arith,
       turn-length (g .args .table .now) (g .pre .2) (g .pre .0) (g .args .choices .now) (l .state) (l .regs) (l .i) (l .count) (l .inv .2) (l .inv .3) (l .inv .4) more (d .result .reply) (d .result .agent) (d .last .1 .0) (d .ensures) (c .before .before .if1 .left),
