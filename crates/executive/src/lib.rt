@@ -1,11 +1,11 @@
 // The executive: the start state, one step and a run over a list of choices, on lent words.
 mod agents; // agents.rt: what a row does to its agent, one method for each family
 mod messages; // messages.rt: the best of the messages that a row sees
-mod starting; // starting.rt: the start state of a table
+pub mod starting; // starting.rt: the start state of a table
 mod deadlines; // deadlines.rt: the deadline of all agents, and whether any agent can go
 mod checking; // checking.rt: whether a state fits a table
-mod registers; // registers.rt: the registers of all agents, out of a state's words and back into them
-mod stepping; // stepping.rt: the reply to a choice, and its effect
+pub mod registers; // registers.rt: the registers of all agents, out of a state's words and back into them
+pub mod stepping; // stepping.rt: the reply to a choice, and its effect
 mod running; // running.rt: a run over a list of choices
 pub mod calls; // calls.rt: start, step and run on lent words
 
