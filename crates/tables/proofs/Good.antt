@@ -6,15 +6,17 @@ use mathlib.Core.List.{List}
 use Prim.Native.Nat.{ℕ, zero, suc, _+_, _≤_, _<_}
 use native.Mathlib.Omega.{arith}
 use lib.Dec.{eqb, ltb}
-use lib.ListN.{getD}
-use borrow.Author.Tests.{leb-true, le-leb, eqb-true, eqb-false, eq-eqb, ltb-true, ltb-false}
-use Rattle.tables.proofs.Passed.{each, every-go, every-none, below, all-below}
+use lib.ListN.{getD, length, take}
+use borrow.Author.Tests.{leb-true, le-leb, eqb-true, eqb-false, eq-eqb, ltb-true, ltb-false, le-ltb, not-false}
+use Rattle.tables.proofs.Passed.{each, every-go, every-none, below, all-below, passed, first-skip, first-none}
+use Rattle.tables.proofs.Tests.{not-t}
 use Rattle.tables.proofs.Zeros.{zero-at, zero-all}
 use Rattle.tables.proofs.RowReplies.{RowFits, row-fits}
 use Rattle.tables.proofs.Loops.{rowPasses}
 use Rattle.tables.proofs.Families.{OneOfNine, one-of-nine, x-range, y-range, n-range}
 use Rattle.tables.specs.Layout.{agents, rows, row, rowPlace, startPlace, tableWords}
 use Rattle.tables.specs.Rows.{wellFormed}
+use Rattle.tables.specs.Calls.{checkReply}
 use Rattle.tables.specs.Table.{earlyBefore, lateBefore, rowReplyAt, goodRows, goodAgent, goodTable}
 
 -- the words from place i up to place j are 0
@@ -176,3 +178,16 @@ module _ (tb : List ℕ) (good : goodTable tb ≡ true) where
       go : (b : Bool) → ltb a (agents tb) ≡ b → getD tb (rowPlace a i + w) 0 ≡ 0
       go true e = let h = ltb-true a (agents tb) e in no-row a h i w (past h) m n
       go false e = let h = ltb-false a (agents tb) e in no-agent (rowPlace a i + w) (omega arith) (omega arith)
+
+-- ---- reply 0 of `check`
+
+module _ (tb : List ℕ) where
+  pub checked-good : checkReply tb ≡ 0 → (tableWords ≤ length tb) × (goodTable (take tableWords tb) ≡ true)
+  unfolding checkReply
+  checked-good h =
+      let clear = passed _ tt h in
+      (ltb-false _ _ (clear 0), not-false _ (clear 1))
+
+  pub good-checked : tableWords ≤ length tb → goodTable (take tableWords tb) ≡ true → checkReply tb ≡ 0
+  unfolding checkReply
+  good-checked h good = sym (first-skip _ _ _ _ (le-ltb _ _ h) (first-skip _ _ _ _ (not-t _ good) first-none))

@@ -1,6 +1,5 @@
 -- `has_fields` meets its contract: the tests of `fieldsFit` in their order. Assumes nothing.
 use borrow.Author.Needs.{needs}
-use mathlib.Core.Path.{refl}
 use Rattle.tables.specs.Rows.{fieldsFit}
 use Rattle.tables.proofs.Tests.{refused, granted}
 use Rattle.tables.proofs.Passed.{every-stop, every-go, every-last}
