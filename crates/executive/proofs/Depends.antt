@@ -1,12 +1,11 @@
 -- An agent's next state depends on its own state and on the messages visible to its row, and on nothing else. Assumes nothing.
 use mathlib.Core.Path.{_≡_, refl, sym, ap, _∙_}
-use mathlib.Core.Logic.{_⊎_, ⊎-elim}
-use mathlib.Core.Bool.{Bool, true, false, _&&_, cond}
+use mathlib.Core.Logic.{⊎-elim}
+use mathlib.Core.Bool.{Bool, true, false}
 use mathlib.Core.List.{List}
 use Prim.Native.Nat.{ℕ, zero, suc, _<_, _≤_}
 use native.Mathlib.Decide.{decLt}
 use native.Mathlib.Omega.{arith}
-use lib.Dec.{eqb, ltb}
 use lib.ListN.{length}
 use Rattle.tables.specs.Layout.{agents, rows, row}
 use Rattle.tables.specs.Table.{goodTable}
@@ -18,7 +17,7 @@ use Rattle.executive.specs.Fit.{fits, current}
 use Rattle.executive.specs.Step.{choiceReply, accepted}
 use Rattle.executive.specs.declared.Agent.{Agent}
 use Rattle.executive.specs.declared.Best.{Best}
-use Rattle.executive.proofs.Good.{few-agents}
+use Rattle.tables.proofs.Good.{few}
 use Rattle.executive.proofs.After.{next, accepted-self}
 use Rattle.executive.proofs.Choice.{allowed}
 use Rattle.executive.proofs.Fitting.{Fits, fits-says}
@@ -77,7 +76,7 @@ depends tb st st′ good long long′ fit fit′ a t t′ c c′ e s =
     ∙ sym (accepted-self tb st′ a t′ long′ low)
   where
     low : a < 16
-    low = let h = allowed tb st a t c .agent in omega (arith, few-agents tb good)
+    low = let h = allowed tb st a t c .agent in omega (arith, few tb good)
 
     seen : (b i : ℕ) → b < agents tb → i < 32 → Dec (i < rows tb b) → visible tb (pool st) (current tb st a) b i ≡ visible tb (pool st′) (current tb st a) b i
     seen b i hb hi (yes l) = s .seen b i hb l

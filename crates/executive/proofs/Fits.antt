@@ -1,22 +1,22 @@
 -- The start state fits its table, and an accepted step keeps the fit. Assumes nothing.
-use mathlib.Core.Path.{_≡_, refl, sym, ap, subst, _∙_}
-use mathlib.Core.Logic.{_≢_, _⊎_, inl, inr}
-use mathlib.Core.Bool.{Bool, true}
+use mathlib.Core.Path.{_≡_, sym, subst, _∙_}
+use mathlib.Core.Logic.{_⊎_, inl, inr}
+use mathlib.Core.Bool.{true}
 use mathlib.Core.List.{List}
-use Prim.Native.Nat.{ℕ, _+_, _*_, _-_, _<_, _≤_}
-use native.Mathlib.Decide.{decLt, ℕ-discrete}
+use Prim.Native.Nat.{ℕ, _<_, _≤_}
+use native.Mathlib.Decide.{ℕ-discrete}
 use native.Mathlib.Omega.{arith}
-use lib.ListN.{length, getD}
-use Rattle.tables.specs.Layout.{agents, rows, row, startPlace}
+use lib.ListN.{length}
+use Rattle.tables.specs.Layout.{agents, rows}
 use Rattle.tables.specs.Table.{goodTable}
-use Rattle.executive.specs.State.{clock, pos, mark, value, posPlace, regPlace, markPlace, valuePlace, startWords}
+use Rattle.executive.specs.State.{clock, pos, mark, value, posPlace, markPlace, valuePlace, startWords}
 use Rattle.executive.specs.Fit.{fits, current}
 use Rattle.executive.specs.Step.{choiceReply, accepted}
-use Rattle.executive.proofs.Good.{few-agents, few-rows, unused-start, target, window, late-limit, late-rises}
-use Rattle.executive.proofs.After.{accepted-length, accepted-other, accepted-clock, accepted-pos, accepted-pos-other, pos-rises, pos-within, sent-own-mark, mark-away, value-away, mark-unsent, value-unsent}
+use Rattle.tables.proofs.Good.{few, few-rows, table-facts, target, window, late-bound, late-climbs}
+use Rattle.executive.proofs.After.{accepted-other, accepted-clock, accepted-pos-other, pos-rises, pos-within, sent-own-mark, mark-away, value-away, mark-unsent, value-unsent}
 use Rattle.executive.proofs.Choice.{InTime, Allowed, allowed}
 use Rattle.executive.proofs.Fitting.{Fits, Unsent, Sent, fits-says, fits-holds}
-use Rattle.executive.proofs.Start.{start-length, start-clock, start-low, start-register, start-high}
+use Rattle.executive.proofs.Start.{start-clock, start-low, start-register, start-high}
 
 module _ (tb : List ℕ) (good : goodTable tb ≡ true) (long : length tb ≡ 2129) where
   long-enough : 2129 ≤ length tb
@@ -27,7 +27,7 @@ module _ (tb : List ℕ) (good : goodTable tb ≡ true) (long : length tb ≡ 21
 
   pub start-is : Fits tb (startWords tb)
   start-is =
-      let few = few-agents tb good in
+      let limit = few tb good in
       let c = start-clock tb long-enough in
       record {
         clock-from = omega arith;
@@ -36,7 +36,7 @@ module _ (tb : List ℕ) (good : goodTable tb ≡ true) (long : length tb ≡ 21
         position = λ b h. let e = start-pos b (omega arith) in omega arith;
         message = λ b i hb hi. inl (start-high tb long-enough (markPlace b i) (omega arith), start-high tb long-enough (valuePlace b i) (omega arith));
         no-position = λ k l m. start-low tb long-enough k (omega arith) m;
-        no-register = λ k l m. start-register tb long-enough k (omega arith) m ∙ unused-start tb good k l m;
+        no-register = λ k l m. start-register tb long-enough k (omega arith) m ∙ table-facts tb good .registers-past k l m;
         no-mark = λ k l m. start-high tb long-enough k (omega arith);
         no-value = λ k l m. start-high tb long-enough k (omega arith);
       }
@@ -51,7 +51,7 @@ module _ (tb st : List ℕ) (good : goodTable tb ≡ true) (long : length st ≡
   new = accepted tb st a t
 
   low : a < 16
-  low = let h = c .agent in omega (arith, few-agents tb good)
+  low = let h = c .agent in omega (arith, few tb good)
 
   within : pos st a < 32
   within = let h = c .unended in omega (arith, few-rows tb good a (c .agent))
@@ -70,13 +70,13 @@ module _ (tb st : List ℕ) (good : goodTable tb ≡ true) (long : length st ≡
             pos-within tb st a t long low (rows tb a) (target tb good a (c .agent) (pos st a) (c .unended)),
           )
       go (no n) =
-          let e = accepted-pos-other tb st a t long low b (omega (arith, few-agents tb good)) n in
+          let e = accepted-pos-other tb st a t long low b (omega (arith, few tb good)) n in
           let p = f .position b h in (omega arith, omega arith)
 
   new-late : InTime tb new t
   new-late b h live =
       let p = new-position b h in
-      let l = late-rises tb good b h (pos st b) (pos new b) (p .0) live in
+      let l = late-climbs tb good b h (pos st b) (pos new b) (p .0) live in
       let o = c .late b h (omega arith) in
       omega arith
 
@@ -84,7 +84,7 @@ module _ (tb st : List ℕ) (good : goodTable tb ≡ true) (long : length st ≡
   new-message b i hb hi = go (ℕ-discrete b a) (ℕ-discrete i (pos st a)) (ℕ-discrete (current tb st a .op) 0x20)
     where
       hb16 : b < 16
-      hb16 = omega (arith, few-agents tb good)
+      hb16 = omega (arith, few tb good)
 
       -- a place whose words are as before
       kept : mark new b i ≡ mark st b i → value new b i ≡ value st b i → Unsent tb st b i ⊎ Sent tb st b i → Unsent tb new b i ⊎ Sent tb new b i
@@ -107,13 +107,13 @@ module _ (tb st : List ℕ) (good : goodTable tb ≡ true) (long : length st ≡
 
   pub accepted-is : Fits tb new
   accepted-is =
-      let few = few-agents tb good in
+      let limit = few tb good in
       let h = c .agent in
       let n = c .clock in
       let e = clock-is in
       record {
         clock-from = let l = f .clock-from in omega arith;
-        clock-to = let l = c .late a (c .agent) (c .unended) in let m = late-limit tb good a (c .agent) (pos st a) (c .unended) in omega arith;
+        clock-to = let l = c .late a (c .agent) (c .unended) in let m = late-bound tb good a (c .agent) (pos st a) (c .unended) in omega arith;
         late = subst (InTime tb new) (sym clock-is) new-late;
         position = λ b hb. new-position b hb .1;
         message = new-message;

@@ -1,22 +1,23 @@
 -- What a state that fits its table says, place by place, and back. Assumes nothing.
-use mathlib.Core.Path.{_≡_, refl, sym, ap, subst, _∙_}
+use mathlib.Core.Path.{_≡_, refl}
 use mathlib.Core.Logic.{_≢_, _⊎_, inl, inr, ⊎-elim}
 use mathlib.Core.Bool.{Bool, true, false, _&&_, _||_}
-use mathlib.Core.List.{List, [], _∷_}
-use Prim.Native.Nat.{ℕ, zero, suc, _+_, _*_, _-_, _<_, _≤_}
-use native.Mathlib.Decide.{decLt, decLe, ℕ-discrete}
+use mathlib.Core.List.{List}
+use Prim.Native.Nat.{ℕ, _+_, _*_, _-_, _<_, _≤_}
+use native.Mathlib.Decide.{decLt}
 use native.Mathlib.Omega.{arith}
-use lib.Dec.{ltb, leb, eqb}
-use lib.ListN.{length, getD}
+use lib.Dec.{eqb}
+use lib.ListN.{getD}
 use borrow.Author.Tests.{leb-true, le-leb, eqb-true, eq-eqb}
-use Rattle.tables.specs.Basics.{every, allBelow, zeroFrom}
+use Rattle.tables.specs.Basics.{every}
 use Rattle.tables.specs.Layout.{agents, rows, row}
 use Rattle.tables.specs.Table.{goodTable}
 use Rattle.tables.proofs.Tests.{and-both, or-left, or-right}
 use Rattle.tables.proofs.Passed.{and-1, and-2, each, below, all-below}
 use Rattle.executive.specs.State.{clock, pos, mark, value, posPlace, regPlace, markPlace, valuePlace}
-use Rattle.executive.specs.Fit.{fits, goodPlaces, goodMark, unfinished, inTime, current}
-use Rattle.executive.proofs.Good.{zero-at, zeros-from, few-rows}
+use Rattle.executive.specs.Fit.{fits, goodPlaces, goodMark}
+use Rattle.tables.proofs.Zeros.{zero-at, zero-all}
+use Rattle.tables.proofs.Good.{few-rows}
 use Rattle.executive.proofs.Choice.{InTime, in-time, time-in}
 
 module _ (tb st : List ℕ) where
@@ -112,8 +113,8 @@ module _ (tb st : List ℕ) where
           rw (
             le-leb (pos st b) (rows tb b) p,
             all-below (pos st b) (goodMark tb st b) (λ i l. message-mark b i (f .message b i hb (omega arith))),
-            zeros-from st (markPlace b (pos st b)) (markPlace (b + 1) 0) (λ k l m. past-zero 81 k l m (λ i u. u .0)),
-            zeros-from st (valuePlace b (pos st b)) (valuePlace (b + 1) 0) (λ k l m. past-zero 593 k l m (λ i u. u .1)),
+            zero-all st (markPlace b (pos st b)) (markPlace (b + 1) 0) (λ k l m. past-zero 81 k l m (λ i u. u .0)),
+            zero-all st (valuePlace b (pos st b)) (valuePlace (b + 1) 0) (λ k l m. past-zero 593 k l m (λ i u. u .1)),
           )
 
     pub fits-holds : fits tb st ≡ true
@@ -124,10 +125,10 @@ module _ (tb st : List ℕ) where
           le-leb (clock st) 1000000 (f .clock-to),
           time-in tb st (clock st) (f .late),
           all-below (agents tb) (goodPlaces tb st) places,
-          zeros-from st (posPlace (agents tb)) 17 (f .no-position),
-          zeros-from st (regPlace (agents tb)) 81 (f .no-register),
-          zeros-from st (markPlace (agents tb) 0) 593 (f .no-mark),
-          zeros-from st (valuePlace (agents tb) 0) 1105 (f .no-value),
+          zero-all st (posPlace (agents tb)) 17 (f .no-position),
+          zero-all st (regPlace (agents tb)) 81 (f .no-register),
+          zero-all st (markPlace (agents tb) 0) 593 (f .no-mark),
+          zero-all st (valuePlace (agents tb) 0) 1105 (f .no-value),
         )
 
   -- ---- the same of any place of the state, used or not

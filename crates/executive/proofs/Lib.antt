@@ -1,12 +1,13 @@
 pub mod Lists
-pub mod Good
 pub mod After
 pub mod Choice
 pub mod Fitting
 pub mod Start
 pub mod Fits
 pub mod Runs
+pub mod Ready
 pub mod OneByOne
+pub mod Counted
 pub mod Taken
 pub mod Stuck
 pub mod Depends

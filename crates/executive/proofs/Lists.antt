@@ -2,8 +2,8 @@
 use mathlib.Core.Path.{_≡_, refl, sym, _∙_}
 use mathlib.Core.Logic.{_≢_}
 use mathlib.Core.List.{List, [], _∷_, _++_}
-use Prim.Native.Nat.{ℕ, zero, suc, _+_, _-_, _<_, _≤_, min}
-use native.Mathlib.Nat.{not-suc-le-zero, le-of-suc-le-suc, sub-zero, suc-sub-suc, suc-add, zero-add, add-suc}
+use Prim.Native.Nat.{ℕ, zero, suc, _+_, _-_, _<_, _≤_}
+use native.Mathlib.Nat.{not-suc-le-zero, le-of-suc-le-suc, sub-zero, suc-sub-suc}
 use native.Mathlib.Omega.{arith}
 use lib.ListN.{length, set, take, drop, getD, replicate, length-set, length-take, length-drop}
 use lib.Seq.{sets, length-sets, getD-set-same, getD-set-other, getD-take, getD-drop, ext-getD}

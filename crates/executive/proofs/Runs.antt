@@ -1,5 +1,5 @@
 -- A run accepts at most 512 steps: each raises its agent's position, and there are at most 16 agents of 32 rows. Assumes nothing.
-use mathlib.Core.Path.{_≡_, refl, sym, ap, _∙_}
+use mathlib.Core.Path.{_≡_, refl, sym, ap}
 use mathlib.Core.Bool.{true}
 use mathlib.Core.List.{List, [], _∷_}
 use Prim.Native.Nat.{ℕ, zero, suc, _+_, _*_, _<_, _≤_}
@@ -7,12 +7,12 @@ use native.Mathlib.Decide.{ℕ-discrete}
 use native.Mathlib.Nat.{not-suc-le-zero}
 use native.Mathlib.Omega.{arith}
 use lib.ListN.{length}
-use Rattle.tables.specs.Layout.{agents, rows}
+use Rattle.tables.specs.Layout.{agents}
 use Rattle.tables.specs.Table.{goodTable}
 use Rattle.executive.specs.State.{pos, startWords}
 use Rattle.executive.specs.Step.{choiceReply, accepted}
 use Rattle.executive.specs.Run.{RunOutcome, ended, runFrom}
-use Rattle.executive.proofs.Good.{few-agents, few-rows}
+use Rattle.tables.proofs.Good.{few, few-rows}
 use Rattle.executive.proofs.After.{accepted-length, pos-rises}
 use Rattle.executive.proofs.Choice.{Allowed, allowed}
 use Rattle.executive.proofs.Fitting.{Fits}
@@ -74,13 +74,13 @@ module _ (tb : List ℕ) (good : goodTable tb ≡ true) where
   walked-within : (st : List ℕ) → Fits tb st → walked st (agents tb) ≤ 512
   walked-within st f =
       let l = walked-most st (agents tb) (λ b h. let p = f .position b h in let r = few-rows tb good b h in omega arith) in
-      let n = few-agents tb good in
+      let n = few tb good in
       omega arith
 
   walked-on : (st : List ℕ) → length st ≡ 1105 → Fits tb st → (a t : ℕ) → Allowed tb st a t → walked st (agents tb) < walked (accepted tb st a t) (agents tb)
   walked-on st long f a t c =
       walked-more st (accepted tb st a t) (agents tb) a (λ b h. new-position tb st good long f a t c b h .0) (c .agent)
-      (pos-rises tb st a t long (let h = c .agent in let n = few-agents tb good in omega arith))
+      (pos-rises tb st a t long (let h = c .agent in let n = few tb good in omega arith))
 
   -- the accepted steps and the positions that they begin at are at most 512 together
   pub count-within : (st : List ℕ) (n : ℕ) (cs : List ℕ) → length st ≡ 1105 → Fits tb st → runFrom tb st n cs .count + walked st (agents tb) ≤ n + 512
@@ -90,7 +90,7 @@ module _ (tb : List ℕ) (good : goodTable tb ≡ true) where
   count-within st n (a ∷ t ∷ cs) long f = go (choiceReply tb st a t) refl (λ h. count-within (accepted tb st a t) (n + 1) cs (accepted-long h) (accepted-is tb st good long f a t (allowed tb st a t h)))
     where
       accepted-long : choiceReply tb st a t ≡ 0 → length (accepted tb st a t) ≡ 1105
-      accepted-long h = let c = allowed tb st a t h .agent in accepted-length tb st a t long (omega (arith, few-agents tb good))
+      accepted-long h = let c = allowed tb st a t h .agent in accepted-length tb st a t long (omega (arith, few tb good))
 
       go : (r : ℕ) → choiceReply tb st a t ≡ r
           → (choiceReply tb st a t ≡ 0 → runFrom tb (accepted tb st a t) (n + 1) cs .count + walked (accepted tb st a t) (agents tb) ≤ n + 1 + 512)

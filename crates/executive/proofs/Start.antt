@@ -1,10 +1,10 @@
 -- The words of the start state, place by place. Assumes nothing.
-use mathlib.Core.Path.{_≡_, refl, sym, ap, _∙_}
-use mathlib.Core.List.{List, [], _∷_, _++_}
+use mathlib.Core.Path.{_≡_, refl, ap, _∙_}
+use mathlib.Core.List.{List, _∷_, _++_}
 use Prim.Native.Nat.{ℕ, zero, suc, _+_, _-_, _<_, _≤_}
 use native.Mathlib.Nat.{not-suc-le-zero}
 use native.Mathlib.Omega.{arith}
-use lib.ListN.{length, take, drop, getD, replicate, length-append, length-take, length-drop, length-replicate, List·getD-append}
+use lib.ListN.{length, take, drop, getD, replicate, length-append, length-take, length-drop, List·getD-append}
 use Rattle.executive.specs.State.{startWords}
 use Rattle.executive.proofs.Lists.{getD-right, getD-zeros, getD-part}
 

@@ -1,8 +1,8 @@
 -- 14's test holds exactly where no agent and no time at all would be accepted. Of a good table and a state that fits it that is nowhere,
 -- as long as some agent is unfinished: the one of the least late can go. Assumes nothing.
-use mathlib.Core.Path.{_≡_, refl, sym, ap, subst, _∙_}
+use mathlib.Core.Path.{_≡_, refl, sym, _∙_}
 use mathlib.Core.Logic.{_≢_, _↔_, _⊎_, inl, inr}
-use mathlib.Core.Bool.{Bool, true, false, _&&_, not, false≢true}
+use mathlib.Core.Bool.{Bool, true, false, not, false≢true}
 use mathlib.Core.List.{List}
 use Prim.Native.Nat.{ℕ, zero, suc, max, _≤_, _<_}
 use native.Mathlib.Nat.{not-suc-le-zero}
@@ -15,7 +15,7 @@ use Rattle.tables.proofs.Passed.{and-1, and-2, all-below}
 use Rattle.executive.specs.State.{clock, pos}
 use Rattle.executive.specs.Fit.{unfinished, current, inTime}
 use Rattle.executive.specs.Step.{canGo, stuck, choiceReply}
-use Rattle.executive.proofs.Good.{window}
+use Rattle.tables.proofs.Good.{window}
 use Rattle.executive.proofs.Choice.{Allowed, in-time, not-stuck, lacking, reply-10, reply-11}
 use Rattle.executive.proofs.Fitting.{Fits}
 
