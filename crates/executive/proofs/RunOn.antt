@@ -1,8 +1,8 @@
 -- A run worked out with the registers beside the state: what one choice makes of what is left to run. Assumes nothing.
-use mathlib.Core.Path.{_≡_, refl, sym, ap, ap₂, subst, _∙_}
+use mathlib.Core.Path.{_≡_, refl, sym, ap, ap₂, _∙_}
 use mathlib.Core.Bool.{true}
 use mathlib.Core.List.{List, [], _∷_}
-use Prim.Native.Nat.{ℕ, zero, suc, _+_, _*_, _-_, _/_, _%_, _≤_, _<_}
+use Prim.Native.Nat.{ℕ, zero, suc, _+_, _-_, _/_, _%_, _≤_, _<_}
 use native.Mathlib.Decide.{ℕ-discrete}
 use native.Mathlib.Omega.{arith}
 use borrow.Author.Tests.{eq-eqb, ne-eqb}
@@ -12,7 +12,7 @@ use Rattle.tables.specs.Table.{goodTable}
 use Rattle.executive.specs.declared.Agent.{Agent}
 use Rattle.executive.specs.State.{agentAt, startWords, regPlace}
 use Rattle.executive.specs.Step.{choiceReply, accepted}
-use Rattle.executive.specs.Registers.{around, listed, register, withRegs, ChoiceOutcome, chosen, nobody, chooseInto, wordsAfter}
+use Rattle.executive.specs.Registers.{around, listed, register, withRegs, ChoiceOutcome, chosen, chooseInto, wordsAfter}
 use Rattle.executive.specs.Run.{RunOutcome, ended, runFrom}
 use Rattle.executive.proofs.Lists.{getD-part}
 use Rattle.executive.proofs.After.{accepted-length, accepted-other}
@@ -159,32 +159,50 @@ count-bound tb good long cs st ds n e =
     let q = ap (λ (o : RunOutcome). o .count) e in
     omega arith
 
--- ---- one turn of the loop over the choices cs: n are accepted, i words of cs are read, and what is left ends as the whole run does
+-- ---- one turn of the loop over the choices cs
 
-module _ (tb : List ℕ) (good : goodTable tb ≡ true) (long-tb : length tb ≡ 2129) (cs st : List ℕ) (g : List (List ℕ)) (i n : ℕ)
-    (long : length st ≡ 1105) (wide : length g ≡ 16) (left : runFrom tb (withRegs st g) n (drop i cs) ≡ runFrom tb (startWords tb) 0 cs)
-    (more : i + 1 < length cs) (r : ℕ) (q : Agent) (ws : List ℕ) (e : chosen r q ws ≡ chooseInto tb st g (getD cs i 0) (getD cs (i + 1) 0)) where
+-- n are accepted, i words of cs are read, and what is left of them, from the words st with the registers g, ends as the whole run does
+pub record Left (tb cs st : List ℕ) (g : List (List ℕ)) (n i : ℕ) : Type 0 where
+  pub read : i ≤ length cs
+  pub even : i % 2 ≡ 0
+  pub long : length st ≡ 1105
+  pub wide : length g ≡ 16
+  pub ends : runFrom tb (withRegs st g) n (drop i cs) ≡ runFrom tb (startWords tb) 0 cs
+
+module _ (tb : List ℕ) (good : goodTable tb ≡ true) (long-tb : length tb ≡ 2129) (cs : List ℕ) (pairs : length cs % 2 ≡ 0)
+    (st : List ℕ) (g : List (List ℕ)) (n i : ℕ) (l : Left tb cs st g n i) (more : i < length cs)
+    (r : ℕ) (q : Agent) (ws : List ℕ) (e : chosen r q ws ≡ chooseInto tb st g (getD cs i 0) (getD cs (i + 1) 0)) where
   abbrev a : ℕ
   a = getD cs i 0
 
   abbrev t : ℕ
   t = getD cs (i + 1) 0
 
-  left-two : runFrom tb (withRegs st g) n (a ∷ t ∷ drop (i + 2) cs) ≡ runFrom tb (startWords tb) 0 cs
-  left-two = ap (runFrom tb (withRegs st g) n) (sym (two cs i more)) ∙ left
+  two-left : i + 1 < length cs
+  two-left = let v = l .even in omega arith
+
+  from-here : runFrom tb (withRegs st g) n (a ∷ t ∷ drop (i + 2) cs) ≡ runFrom tb (startWords tb) 0 cs
+  from-here = ap (runFrom tb (withRegs st g) n) (sym (two cs i two-left)) ∙ l .ends
 
   pub turn-ends : (r ≡ 0 → ⊥) → ended r n (withRegs ws g) ≡ runFrom tb (startWords tb) 0 cs
-  turn-ends k = sym (refused-run tb st g a t r q ws e n (drop (i + 2) cs) k) ∙ left-two
+  turn-ends k = sym (refused-run tb st g a t r q ws e n (drop (i + 2) cs) k) ∙ from-here
 
   module _ (z : r ≡ 0) where
     pub turn-low : a < 16
     turn-low = chosen-low tb (withRegs st g) good a t (chosen-reply tb st g a t r q ws e ∙ z)
 
-    pub turn-length : length ws ≡ 1105
-    turn-length = words-length tb st g a t r q ws e z long wide turn-low
-
-    pub turn-goes : runFrom tb (withRegs ws (set g a (q .regs))) (n + 1) (drop (i + 2) cs) ≡ runFrom tb (startWords tb) 0 cs
-    turn-goes = sym (accepted-run tb st g a t r q ws e z long wide turn-low n (drop (i + 2) cs)) ∙ left-two
+    next-ends : runFrom tb (withRegs ws (set g a (q .regs))) (n + 1) (drop (i + 2) cs) ≡ runFrom tb (startWords tb) 0 cs
+    next-ends = sym (accepted-run tb st g a t r q ws e z (l .long) (l .wide) turn-low n (drop (i + 2) cs)) ∙ from-here
 
     pub turn-count : n + 1 ≤ 512
-    turn-count = count-bound tb good long-tb cs (withRegs ws (set g a (q .regs))) (drop (i + 2) cs) (n + 1) turn-goes
+    turn-count = count-bound tb good long-tb cs (withRegs ws (set g a (q .regs))) (drop (i + 2) cs) (n + 1) next-ends
+
+    pub turn-goes : Left tb cs ws (set g a (q .regs)) (n + 1) (i + 2)
+    turn-goes =
+        record {
+          read = let h = two-left in omega arith;
+          even = let v = l .even in omega arith;
+          long = words-length tb st g a t r q ws e z (l .long) (l .wide) turn-low;
+          wide = length-set g a (q .regs) ∙ l .wide;
+          ends = next-ends;
+        }

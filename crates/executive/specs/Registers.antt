@@ -1,4 +1,5 @@
 -- While steps are worked out the registers of all agents stand beside the state's words, which keep the words that they had. Assumes nothing.
+use mathlib.Core.Path.{_≡_, sym, _∙_}
 use mathlib.Core.Bool.{cond}
 use mathlib.Core.List.{List, [], _∷_, _++_}
 use Prim.Native.Nat.{ℕ, zero, suc, _/_, _%_}
@@ -50,3 +51,8 @@ chooseInto tb st g a t =
 -- the state's words after a choice: as they were where it is refused
 unfoldable pub wordsAfter : (tb st : List ℕ) (a t : ℕ) → List ℕ
 wordsAfter tb st a t = cond (eqb (choiceReply tb st a t) 0) (accepted tb st a t) st
+
+-- no two outcomes of one choice
+pub only-chosen : (tb st : List ℕ) (g : List (List ℕ)) (a t r s : ℕ) (q p : Agent) (after other : List ℕ) → chosen r q after ≡ chooseInto tb st g a t
+    → chosen s p other ≡ chooseInto tb st g a t → chosen r q after ≡ chosen s p other
+only-chosen tb st g a t r s q p after other e d = e ∙ sym d

