@@ -1,6 +1,6 @@
 //! Prints what the proved calls cost, beside an optimised Rust implementation and a plain sum.
 //!
-//! `bench` prints the tables. `bench only NAME SIDE TURNS`, where SIDE is `proved`, `quick`, `stopping` or
+//! `bench` prints the tables. `bench only NAME SIDE TURNS`, where SIDE is `proved`, `quick`, `narrow` or
 //! `sum`,
 //! does that row alone and times nothing, for a counter of instructions such as callgrind.
 
@@ -13,14 +13,14 @@ use std::process::ExitCode;
 use reference::{Table, AGENTS, ROWS};
 
 fn print_table() {
-    println!("| call | proved | quick | ratio | stopping | ratio | sum | inputs |");
+    println!("| call | proved | quick | ratio | narrow | ratio | sum | inputs |");
     println!("|---|---:|---:|---:|---:|---:|---:|---|");
     let mut between = Vec::new();
     for (name, row) in rows::ALL {
         let mut row = row();
-        let [proved, quick, sum, stopping] = match &mut row.stopping {
-            Some(stopping) => {
-                let works = [&mut row.proved, &mut row.quick, &mut row.sum, stopping];
+        let [proved, quick, sum, narrow] = match &mut row.narrow {
+            Some(narrow) => {
+                let works = [&mut row.proved, &mut row.quick, &mut row.sum, narrow];
                 measure::least(works, row.calls).map(Some)
             }
             None => {
@@ -29,9 +29,9 @@ fn print_table() {
                 [proved, quick, sum, None]
             }
         };
-        let ratios = [ratio(proved, quick), ratio(proved, stopping)];
-        let [proved, quick, sum, stopping] = [proved, quick, sum, stopping].map(micros);
-        let times = format!("{proved} | {quick} | {} | {stopping} | {}", ratios[0], ratios[1]);
+        let ratios = [ratio(proved, quick), ratio(proved, narrow)];
+        let [proved, quick, sum, narrow] = [proved, quick, sum, narrow].map(micros);
+        let times = format!("{proved} | {quick} | {} | {narrow} | {}", ratios[0], ratios[1]);
         println!("| {name} | {times} | {sum} | {} |", row.what);
         between.push((name, row.between));
     }
@@ -40,12 +40,10 @@ fn print_table() {
         "Microseconds for one call, the least of many turns in which the sides alternate. A ratio"
     );
     println!(
-        "is the proved time over that before it. `stopping` is `quick` with a search that leaves"
+        "is the proved time over that before it. `narrow` is `quick` with a search of the rows below"
     );
-    println!(
-        "an agent at its first visible message from above. `sum` adds up the words that the call"
-    );
-    println!("is lent, the bytes of the text for read. Done to the buffers between calls:");
+    println!("the positions alone (T-06). `sum` adds up the words that the call is lent, the bytes of");
+    println!("the text for read. Done to the buffers between calls:");
     println!();
     for (name, between) in between {
         println!("- {name}: {between}.");
@@ -103,7 +101,7 @@ fn only(name: &str, side: &str, turns: &str) -> Result<(), String> {
     let mut work = match side {
         "proved" => row.proved,
         "quick" => row.quick,
-        "stopping" => row.stopping.ok_or_else(|| format!("{name} searches for no message"))?,
+        "narrow" => row.narrow.ok_or_else(|| format!("{name} searches for no message"))?,
         "sum" => row.sum,
         _ => return Err(format!("no side {side}")),
     };

@@ -15,8 +15,8 @@ pub struct Row {
     pub calls: usize,
     pub proved: Box<dyn Work>,
     pub quick: Box<dyn Work>,
-    /// `quick` with the search that stops early, where the call searches.
-    pub stopping: Option<Box<dyn Work>>,
+    /// `quick` with the narrow search, where the call searches.
+    pub narrow: Option<Box<dyn Work>>,
     pub sum: Box<dyn Work>,
 }
 
@@ -54,7 +54,7 @@ fn check() -> Row {
         calls: CALLS,
         proved: again(move || assert!(tannoplex::check(black_box(&proved)).is_accepted())),
         quick: again(move || assert_eq!(quick::check(black_box(&quick)), 0)),
-        stopping: None,
+        narrow: None,
         sum: again(move || {
             black_box(sum(black_box(&words)));
         }),
@@ -76,7 +76,7 @@ fn read() -> Row {
         quick: again(move || {
             assert_eq!(quick::read(black_box(&quick), &mut quick_table), (0, 0));
         }),
-        stopping: None,
+        narrow: None,
         sum: again(move || {
             black_box(sum_of_bytes(black_box(&text)));
         }),
@@ -138,8 +138,8 @@ fn step() -> Row {
         quick: steps(|table, state, agent, time| {
             assert_eq!(quick::step(table, state, agent, time), 0);
         }),
-        stopping: Some(steps(|table, state, agent, time| {
-            assert_eq!(quick::step_stopping(table, state, agent, time), 0);
+        narrow: Some(steps(|table, state, agent, time| {
+            assert_eq!(quick::step_narrow(table, state, agent, time), 0);
         })),
         sum: steps(|table, state, _, _| {
             black_box(sum(table).wrapping_add(sum(state)));
@@ -174,7 +174,7 @@ pub fn run(what: &str, table: &Table) -> Row {
             (ran.reply.number(), ran.count)
         }),
         quick: runs(&words, &choices, quick::run),
-        stopping: Some(runs(&words, &choices, quick::run_stopping)),
+        narrow: Some(runs(&words, &choices, quick::run_narrow)),
         sum: again(move || {
             black_box(sum(black_box(&words)));
             black_box(sum(black_box(&choices)));

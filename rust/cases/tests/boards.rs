@@ -37,8 +37,8 @@ fn the_optimised_implementation_passes_and_the_floors_are_met() {
 }
 
 #[test]
-fn the_search_that_stops_early_passes() {
-    let board = Faulty { step: quick::step_stopping, run: quick::run_stopping, ..GOOD };
+fn the_narrow_search_passes() {
+    let board = Faulty { step: quick::step_narrow, run: quick::run_narrow, ..GOOD };
     let plan = Plan(vec![(Kind::Step, 20_000), (Kind::LongRun, 10_000)]);
     compare(&board, &plan, 2).unwrap_or_else(|failure| panic!("{failure}"));
 }

@@ -1,11 +1,11 @@
 //! Document 01 in optimised Rust that does not allocate: what the benchmark measures the proved
 //! library against. `cases` compares it with the reference.
 //!
-//! It works on the lent words where they stand, tests many words without a branch for each, and
-//! looks for messages only in rows that their agent has passed. Its cost is that of the paper's own
-//! account: one check of the table, for each step the number of agents, and for a RECV the places
-//! that it looks at. It keeps no index between steps. The calls named `stopping` look at fewer places,
-//! by a rule of the base that a later request gives up.
+//! It works on the lent words where they stand and tests many words without a branch for each. Its
+//! cost is that of the paper's own account: one check of the table, for each step the number of
+//! agents, and for a RECV the places that it looks at, which are all places of the agents that there
+//! are. It keeps no index between steps. The calls named `narrow` look only at rows that their agent
+//! has passed, as change request T-06 asks.
 
 #![no_std]
 
@@ -15,7 +15,7 @@ mod table;
 mod trace;
 
 pub use reader::read;
-pub use steps::{run, run_stopping, start, step, step_stopping};
+pub use steps::{run, run_narrow, start, step, step_narrow};
 pub use table::check;
 pub use trace::{trace, OUTPUT_BYTES};
 

@@ -73,25 +73,22 @@ impl<'a> State<'a> {
 
     /// The value of the best message visible to this row.
     ///
-    /// With STOPS it leaves an agent at the first visible message from above: lates do not fall along
-    /// the rows, so that is the agent's best. Change request T-03 gives this up.
-    fn best<const STOPS: bool>(&self, table: &Table, [_, k, early, _]: Row) -> Option<u32> {
+    /// It walks every place of each agent, as document 01's executive does; with NARROW only the rows
+    /// below the agent's position, as change request T-06 will.
+    fn best<const NARROW: bool>(&self, table: &Table, [_, k, early, _]: Row) -> Option<u32> {
         let mut best = None;
         let mut best_late = 0;
         for a in 0..table.agents {
-            let passed = (self.positions[a] as usize).min(ROWS);
+            let walked = if NARROW { (self.positions[a] as usize).min(ROWS) } else { ROWS };
             let rows = table.places(a);
             let marks = &self.marks[a];
             // Downwards, so that of an agent's messages of one late the higher row comes first.
-            for i in (0..passed).rev() {
+            for i in (0..walked).rev() {
                 let [_, sent_k, _, late] = rows[i];
                 let is_seen = late < early && marks[i] != 0 && sent_k == k;
                 if late > best_late && is_seen {
                     best_late = late;
                     best = Some(self.values[a][i]);
-                }
-                if STOPS && is_seen {
-                    break;
                 }
             }
         }
@@ -129,7 +126,7 @@ impl Lates {
 /// Reply 14 is not tested for: of the unfinished agents the one of least late can be run at the
 /// greater of the clock and its early, so it is never given.
 #[inline(always)]
-pub fn take<const STOPS: bool>(
+pub fn take<const NARROW: bool>(
     table: &Table,
     state: &mut State,
     lates: &mut Lates,
@@ -175,7 +172,7 @@ pub fn take<const STOPS: bool>(
             state.values[a][position as usize % ROWS] = value;
         }
         _ => {
-            if let Some(value) = state.best::<STOPS>(table, row) {
+            if let Some(value) = state.best::<NARROW>(table, row) {
                 state.registers[a][x] = value;
                 n = 0;
             }
@@ -200,7 +197,7 @@ pub fn start(table: &[u32], state: &mut [u32]) -> u32 {
     ACCEPTED
 }
 
-fn any_step<const STOPS: bool>(table: &[u32], state: &mut [u32], agent: u32, time: u32) -> u32 {
+fn any_step<const NARROW: bool>(table: &[u32], state: &mut [u32], agent: u32, time: u32) -> u32 {
     let (Some(words), Some(state)) = (table.first_chunk::<TABLE_WORDS>(), state.first_chunk_mut())
     else {
         return BUFFER_TOO_SHORT;
@@ -213,10 +210,10 @@ fn any_step<const STOPS: bool>(table: &[u32], state: &mut [u32], agent: u32, tim
         return BAD_STATE;
     }
     let mut lates = Lates::of(&table, &state);
-    take::<STOPS>(&table, &mut state, &mut lates, agent, time)
+    take::<NARROW>(&table, &mut state, &mut lates, agent, time)
 }
 
-fn any_run<const STOPS: bool>(table: &[u32], state: &mut [u32], choices: &[u32]) -> (u32, u32) {
+fn any_run<const NARROW: bool>(table: &[u32], state: &mut [u32], choices: &[u32]) -> (u32, u32) {
     let (Some(words), Some(state)) = (table.first_chunk::<TABLE_WORDS>(), state.first_chunk_mut())
     else {
         return (BUFFER_TOO_SHORT, 0);
@@ -231,7 +228,7 @@ fn any_run<const STOPS: bool>(table: &[u32], state: &mut [u32], choices: &[u32])
     let mut lates = Lates::of(&table, &state);
     let mut count = 0;
     for &[agent, time] in choices {
-        let reply = take::<STOPS>(&table, &mut state, &mut lates, agent, time);
+        let reply = take::<NARROW>(&table, &mut state, &mut lates, agent, time);
         if reply != ACCEPTED {
             return (reply, count);
         }
@@ -245,8 +242,8 @@ pub fn step(table: &[u32], state: &mut [u32], agent: u32, time: u32) -> u32 {
     any_step::<false>(table, state, agent, time)
 }
 
-/// One step whose search for a message stops at each agent's first.
-pub fn step_stopping(table: &[u32], state: &mut [u32], agent: u32, time: u32) -> u32 {
+/// One step whose search for a message walks the rows below the positions alone.
+pub fn step_narrow(table: &[u32], state: &mut [u32], agent: u32, time: u32) -> u32 {
     any_step::<true>(table, state, agent, time)
 }
 
@@ -255,7 +252,7 @@ pub fn run(table: &[u32], state: &mut [u32], choices: &[u32]) -> (u32, u32) {
     any_run::<false>(table, state, choices)
 }
 
-/// A run whose searches for a message stop at each agent's first.
-pub fn run_stopping(table: &[u32], state: &mut [u32], choices: &[u32]) -> (u32, u32) {
+/// A run whose searches for a message walk the rows below the positions alone.
+pub fn run_narrow(table: &[u32], state: &mut [u32], choices: &[u32]) -> (u32, u32) {
     any_run::<true>(table, state, choices)
 }
