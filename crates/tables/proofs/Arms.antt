@@ -1,6 +1,6 @@
 -- Which lines the last arm of a `match` on a line takes. Assumes nothing.
 use mathlib.Core.Path.{_≡_, refl}
-use mathlib.Core.Bool.{Bool, true, false}
+use mathlib.Core.Bool.{false}
 use mathlib.Core.List.{[], _∷_}
 use types.Run.{OneOf, miss}
 use denote.Enum.Declared.{tagOf}

@@ -1,90 +1,22 @@
 -- The lines and frames of a text by what stands at its head: an end line, 36 digits, or neither. Assumes nothing.
-use mathlib.Core.Path.{_≡_, refl, sym, ap, subst, _∙_}
-use mathlib.Core.Bool.{Bool, true, false, _&&_, cond}
-use mathlib.Core.List.{List, [], _∷_, _++_, map, append-assoc}
+use mathlib.Core.Path.{_≡_, refl, sym, ap, _∙_}
+use mathlib.Core.Bool.{Bool, true, false, cond}
+use mathlib.Core.List.{List, [], _∷_, _++_, map}
 use Prim.Native.Nat.{ℕ, zero, suc, _+_, _-_, _≤_, _<_, min}
 use native.Mathlib.Omega.{arith}
-use lib.Dec.{ltb, eqb}
-use lib.ListN.{length, take, drop, length-drop, length-take, length-append, take-append-drop, drop-of-length-le}
+use lib.Dec.{eqb}
+use lib.ListN.{length, take, drop, length-drop, length-take, drop-of-length-le}
 use lib.Seq.{take-take, take-at, drop-drop}
-use borrow.Author.Tests.{ltb-true, ne-eqb}
-use Rattle.tables.specs.Lines.{same, newline, endLine, onto, lines, hexDigit, allHex, number, field, digitsLine}
+use Rattle.tables.specs.Lines.{same, endLine, lines, allHex, number, field, digitsLine}
 use Rattle.tables.specs.Frames.{Frame, opens, gives, ends, malformed, fourWords, frameOf, framesOf}
 use Rattle.tables.specs.Heads.{endAt, digitsAt, wordsAt, headLine, lineAt}
 use Rattle.tables.specs.declared.frames.Line.{Line}
 use Rattle.tables.specs.declared.frames.Line.the-variants.{Opens, Gives, Ends, Malformed}
-use Rattle.tables.proofs.Passed.{and-1, and-2}
+use Rattle.tables.proofs.Newlines.{joined, joined-lines, line-hex, line-length, lines-digits, lines-end}
 use Rattle.tables.proofs.Lines.{same-eq, same-self, other-length, hex-part}
 
 not-both : _≡_ {A = Bool} true false → ⊥
 not-both e = let z : _≡_ {A = ℕ} 0 1 = cc in omega arith
-
--- ---- the lines of a text are the text
-
-joined : List (List ℕ) → List ℕ
-joined [] = []
-joined (l ∷ ls) = l ++ joined ls
-
-joined-onto : (c : ℕ) (ls : List (List ℕ)) → joined (onto c ls) ≡ c ∷ joined ls
-unfolding joined
-joined-onto c [] = refl
-joined-onto c (l ∷ ls) = refl
-
-lines-newline : (c : ℕ) (cs : List ℕ) → eqb c newline ≡ true → lines (c ∷ cs) ≡ (c ∷ []) ∷ lines cs
-unfolding lines
-lines-newline c cs e = rw (e, lines)
-
-lines-other : (c : ℕ) (cs : List ℕ) → eqb c newline ≡ false → lines (c ∷ cs) ≡ onto c (lines cs)
-unfolding lines
-lines-other c cs e = rw (e, lines)
-
-joined-lines : (s : List ℕ) → joined (lines s) ≡ s
-unfolding joined lines
-joined-lines [] = refl
-joined-lines (c ∷ cs) = go (eqb c newline) refl (joined-lines cs)
-  where
-    go : (b : Bool) → eqb c newline ≡ b → joined (lines cs) ≡ cs → joined (lines (c ∷ cs)) ≡ c ∷ cs
-    go true e h = ap joined (lines-newline c cs e) ∙ ap (λ (l : List ℕ). c ∷ l) h
-    go false e h = ap joined (lines-other c cs e) ∙ joined-onto c (lines cs) ∙ ap (λ (l : List ℕ). c ∷ l) h
-
--- ---- a line ends at its first newline, and no digit is one
-
-hex-newline : (c : ℕ) → hexDigit c < 16 → eqb c newline ≡ false
-unfolding hexDigit
-hex-newline c h = ne-eqb c newline (λ e. let k : hexDigit newline < 16 = rw e at h in absurd (omega arith))
-
-lines-break : (l r : List ℕ) → allHex l ≡ true → lines (l ++ newline ∷ r) ≡ (l ++ newline ∷ []) ∷ lines r
-unfolding lines allHex
-lines-break [] r h = refl
-lines-break (c ∷ l) r h =
-    lines-other c (l ++ newline ∷ r) (hex-newline c (ltb-true _ _ (and-1 (ltb (hexDigit c) 16) (allHex l) h)))
-    ∙ ap (onto c) (lines-break l r (and-2 (ltb (hexDigit c) 16) (allHex l) h))
-
-module _ (n : ℕ) (l : List ℕ) (h : digitsLine n l ≡ true) where
-  line-hex : allHex (take n l) ≡ true
-  unfolding digitsLine
-  line-hex = and-1 (allHex (take n l)) (same (drop n l) (newline ∷ [])) h
-
-  line-end : drop n l ≡ newline ∷ []
-  unfolding digitsLine
-  line-end = same-eq (drop n l) (newline ∷ []) (and-2 (allHex (take n l)) (same (drop n l) (newline ∷ [])) h)
-
-  line-length : length l ≡ n + 1
-  line-length = let e : length l - n ≡ 1 = sym (length-drop n l) ∙ ap length line-end in omega arith
-
-pub lines-digits : (n : ℕ) (s : List ℕ) → digitsLine n (take (n + 1) s) ≡ true → lines s ≡ take (n + 1) s ∷ lines (drop (n + 1) s)
-lines-digits n s h =
-    let l = take (n + 1) s in
-    let e : take n l ++ newline ∷ [] ≡ l = rw (← line-end n l h) (take-append-drop n l) in
-    let f : take n l ++ newline ∷ drop (n + 1) s ≡ s =
-    sym (append-assoc (take n l) (newline ∷ []) (drop (n + 1) s)) ∙ ap (λ (t : List ℕ). t ++ drop (n + 1) s) e ∙ take-append-drop (n + 1) s in
-    ap lines (sym f) ∙ lines-break (take n l) (drop (n + 1) s) (line-hex n l h) ∙ ap (λ (t : List ℕ). t ∷ lines (drop (n + 1) s)) e
-
-pub lines-end : (s : List ℕ) → same (take 3 s) endLine ≡ true → lines s ≡ endLine ∷ lines (drop 3 s)
-unfolding lines
-lines-end s h = ap lines (sym (take-append-drop 3 s) ∙ ap (λ (l : List ℕ). l ++ drop 3 s) (same-eq (take 3 s) endLine h))
-
--- ---- the frames of a text from a place on
 
 cut : {A : Type 0} (n m k : ℕ) (l : List A) → m + n ≤ k → take n (drop m (take k l)) ≡ take n (drop m l)
 cut n zero k l h = take-take n k l (omega arith)
@@ -204,6 +136,25 @@ module _ (text : List ℕ) (p : ℕ) where
       go [] e = refl
       go (l ∷ ls) e = ap (λ (f : Frame). headLine (f ∷ map frameOf ls)) (neither (drop p text) l ls e h k)
 
+-- ---- a line of n digits at place p: its room, its digits, and what reading a field of it asks
+
+module _ (n : ℕ) (text : List ℕ) (p : ℕ) (x : digitsAt n text p ≡ true) where
+  pub digits-room : p ≤ length text → p + (n + 1) ≤ length text
+  unfolding digitsAt
+  digits-room i =
+      let w : n + 1 ≡ min (n + 1) (length text - p) = simp (length-take, length-drop) at (sym (line-length n (take (n + 1) (drop p text)) x)) in omega arith
+
+  digits-hex : allHex (take n (drop p text)) ≡ true
+  unfolding digitsAt
+  digits-hex = sym (ap allHex (take-take n (n + 1) (drop p text) (omega arith))) ∙ line-hex n (take (n + 1) (drop p text)) x
+
+  pub field-asks : (q i k : ℕ) → q ≡ p + i → p ≤ length text → i + k ≤ n → k ≤ 8
+      → (q + k ≤ length text) × (k ≤ 8) × (allHex (take k (drop q text)) ≡ true)
+  field-asks q i k e r h j =
+      let w = digits-room r in
+      let d : drop q text ≡ drop i (drop p text) = ap (λ (m : ℕ). drop m text) e ∙ sym (drop-drop i p text) in
+      (omega arith, j, ap (λ (l : List ℕ). allHex (take k l)) d ∙ hex-part (drop p text) n i k digits-hex h)
+
 -- ---- what a line that is no end and not malformed tells: its frame, its room, its digits
 
 pub record Framed (text : List ℕ) (p : ℕ) (f : Frame) : Type 0 where
@@ -232,15 +183,6 @@ kind-frame k a ws = go (eqb k 0) (eqb k 1)
     go false false = refl
 
 module _ (text : List ℕ) (p : ℕ) where
-  digits-room : digitsAt 36 text p ≡ true → p ≤ length text → p + 37 ≤ length text
-  unfolding digitsAt
-  digits-room h i =
-      let w : 37 ≡ min 37 (length text - p) = simp (length-take, length-drop) at (sym (line-length 36 (take 37 (drop p text)) h)) in omega arith
-
-  digits-hex : digitsAt 36 text p ≡ true → allHex (take 36 (drop p text)) ≡ true
-  unfolding digitsAt
-  digits-hex h = sym (ap allHex (take-take 36 37 (drop p text) (omega arith))) ∙ line-hex 36 (take 37 (drop p text)) h
-
   pub framed : p ≤ length text → (ln : Line) → lineAt text p ≡ ln → full ln ≡ true → Framed text p (frameWith ln (wordsAt text p))
   framed i ln e k = go (endAt text p) refl (digitsAt 36 text p) refl
     where
@@ -258,7 +200,7 @@ module _ (text : List ℕ) (p : ℕ) where
                 (λ (f : Frame). f ∷ framesOf (drop (p + 37) text))
                 (kind-frame (field text p 2) (field text (p + 2) 2) (wordsAt text p)
                 ∙ ap (λ (l : Line). frameWith l (wordsAt text p)) (sym (line-digits text p r) ∙ e));
-            room = digits-room r i;
+            room = digits-room 36 text p r i;
             digits = r;
           }
 
@@ -289,11 +231,3 @@ module _ (text : List ℕ) (p : ℕ) where
 
   pub ended-room : p ≤ length text → lineAt text p ≡ Ends → p + 3 ≤ length text
   ended-room i e = end-room (ends-at e) i
-
--- what reading a field of such a line asks
-pub field-asks : (text : List ℕ) (p q i k : ℕ) → q ≡ p + i → p ≤ length text → digitsAt 36 text p ≡ true → i + k ≤ 36 → k ≤ 8
-    → (q + k ≤ length text) × (k ≤ 8) × (allHex (take k (drop q text)) ≡ true)
-field-asks text p q i k e r x h j =
-    let w = digits-room text p x r in
-    let d : drop q text ≡ drop i (drop p text) = ap (λ (n : ℕ). drop n text) e ∙ sym (drop-drop i p text) in
-    (omega arith, j, ap (λ (l : List ℕ). allHex (take k l)) d ∙ hex-part (drop p text) 36 i k (digits-hex text p x) h)

@@ -6,6 +6,7 @@ pub mod Families
 pub mod Loops
 pub mod Good
 pub mod Lines
+pub mod Newlines
 pub mod Heads
 pub mod Places
 pub mod Arms
@@ -14,4 +15,6 @@ pub mod RowsRead
 pub mod Loads
 pub mod Outcomes
 pub mod Stores
+pub mod Growing
 pub mod ReadGood
+pub mod Bounds

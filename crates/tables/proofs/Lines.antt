@@ -1,7 +1,7 @@
 -- Strings of bytes, digits and numbers, a byte at a time; and the lines of a text: they are the text, and each ends at its newline. Assumes nothing.
-use mathlib.Core.Path.{_≡_, refl, sym, ap, subst, _∙_}
-use mathlib.Core.Bool.{Bool, true, false, _&&_, cond}
-use mathlib.Core.List.{List, [], _∷_, _++_}
+use mathlib.Core.Path.{_≡_, refl, sym, ap, _∙_}
+use mathlib.Core.Bool.{Bool, true, false, _&&_}
+use mathlib.Core.List.{List, [], _∷_}
 use Prim.Native.Nat.{ℕ, zero, suc, _+_, _-_, _*_, _≤_, _<_, _^_}
 use native.Mathlib.Nat.{pow-succ', pow-le-pow-right, lt-of-lt-of-le}
 use native.Mathlib.Numerals.{add-one}
@@ -9,8 +9,8 @@ use native.Mathlib.Omega.{arith}
 use lib.Dec.{ltb, eqb, lit<}
 use lib.ListN.{length, take, drop, getD, length-take, length-drop, drop-of-length-le}
 use lib.Seq.{drop-cons, drop-at, take-suc, take-take, length-take-le, getD-drop}
-use borrow.Author.Tests.{eqb-true, eq-eqb, ne-eqb, ltb-true, lt-ltb}
-use Rattle.tables.specs.Lines.{same, newline, onto, lines, hexDigit, allHex, number, digitsLine}
+use borrow.Author.Tests.{eqb-true, eq-eqb, ltb-true, lt-ltb}
+use Rattle.tables.specs.Lines.{same, newline, hexDigit, allHex, number, digitsLine}
 use Rattle.tables.specs.Heads.{digitsAt}
 use Rattle.tables.proofs.Tests.{and-left, and-right}
 use Rattle.tables.proofs.Passed.{and-1, and-2}

@@ -1,8 +1,8 @@
 -- The words of a table from a text whose lines are in their places, a line at a time. Assumes nothing.
 use mathlib.Core.Path.{_≡_, refl, sym, ap, _∙_}
-use mathlib.Core.Bool.{Bool, true, false}
+use mathlib.Core.Bool.{false}
 use mathlib.Core.List.{List, [], _∷_}
-use Prim.Native.Nat.{ℕ, zero, suc, _+_, _-_, _*_, _≤_, _<_}
+use Prim.Native.Nat.{ℕ, _+_, _-_, _≤_}
 use native.Mathlib.Omega.{arith}
 use lib.ListN.{length, drop, set, replicate, length-set, length-replicate}
 use lib.Seq.{sets, length-sets}
@@ -11,7 +11,7 @@ use Rattle.tables.specs.Frames.{Frame, opens, gives, ends, malformed, fr
 use Rattle.tables.specs.Heads.{headLine, lineAt, wordsAt}
 use Rattle.tables.specs.Reader.{inPlace, loaded, tableOf}
 use Rattle.tables.specs.declared.frames.Line.the-variants.{Opens, Gives}
-use Rattle.tables.proofs.Heads.{Framed, framed, full, no-frames}
+use Rattle.tables.proofs.Heads.{framed, full, no-frames}
 use Rattle.tables.proofs.Accepted.{Placed, placed-first, after-open, after-give}
 
 -- before the line at place p: the words are tb, after a agents of which the last has i rows

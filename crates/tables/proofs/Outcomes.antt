@@ -14,7 +14,7 @@ use Rattle.tables.specs.Calls.{ReadOutcome, readOutcome, framesInto, rea
 use Rattle.tables.specs.declared.Told.{Told}
 
 module _ (fs : List Frame) where
-  misplaced : (r : ℕ) → inPlace 1 0 0 fs .reply ≡ r → (r ≡ 0 → ⊥) → framesReply fs ≡ inPlace 1 0 0 fs
+  pub misplaced : (r : ℕ) → inPlace 1 0 0 fs .reply ≡ r → (r ≡ 0 → ⊥) → framesReply fs ≡ inPlace 1 0 0 fs
   unfolding framesReply
   misplaced zero h k = absurd (k refl)
   misplaced (suc r) h k = ap {B = Told} (λ (m : ℕ). elim m [ zero ↦ rowsGood 1 0 0 0 0 fs | suc q ↦ inPlace 1 0 0 fs ]) h
@@ -99,3 +99,12 @@ module _ (text tb : List ℕ) (t : Told) (after : List ℕ) (r : Read text tb t 
           let q = r ∙ into text tb (ltb-false _ _ accepted-into) ∙ refused (framesOf text) tb (suc n) e (λ u. omega arith) in
           let y = ap (λ (o : ReadOutcome). o .told .reply) q in
           absurd (omega arith)
+
+-- ---- the reply of a read, whatever it is
+
+pub read-told : (text tb : List ℕ) → tableWords ≤ length tb → readInto text tb .told ≡ framesReply (framesOf text)
+read-told text tb long = ap (λ (o : ReadOutcome). o .told) (into text tb long) ∙ go (framesReply (framesOf text) .reply) refl
+  where
+    go : (n : ℕ) → framesReply (framesOf text) .reply ≡ n → framesInto tb (framesOf text) .told ≡ framesReply (framesOf text)
+    go zero e = ap (λ (o : ReadOutcome). o .told) (accepted (framesOf text) tb e)
+    go (suc n) e = ap (λ (o : ReadOutcome). o .told) (refused (framesOf text) tb (suc n) e (λ u. omega arith))

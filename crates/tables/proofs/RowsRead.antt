@@ -1,17 +1,15 @@
 -- Replies 4 to 7 over a text whose lines are in their places, a line at a time. Assumes nothing.
-use mathlib.Core.Path.{_≡_, refl, sym, ap, subst, _∙_}
-use mathlib.Core.Bool.{Bool, true, false}
+use mathlib.Core.Path.{_≡_, refl, ap, _∙_}
+use mathlib.Core.Bool.{false}
 use mathlib.Core.List.{List, [], _∷_}
-use Prim.Native.Nat.{ℕ, zero, suc, _+_, _*_, _≤_, _<_}
+use Prim.Native.Nat.{ℕ, zero, suc, _+_, _≤_, _<_}
 use native.Mathlib.Omega.{arith}
 use lib.ListN.{length, drop}
 use Rattle.tables.specs.Frames.{Frame, opens, gives, ends, malformed, framesOf}
 use Rattle.tables.specs.Heads.{headLine, lineAt, wordsAt}
 use Rattle.tables.specs.Rows.{rowReply}
 use Rattle.tables.specs.Reader.{told, inPlace, rowsNext, rowIn, rowsGood}
-use Rattle.tables.specs.declared.Told.{Told}
-use Rattle.tables.specs.declared.frames.Line.{Line}
-use Rattle.tables.specs.declared.frames.Line.the-variants.{Opens, Gives, Ends, Malformed}
+use Rattle.tables.specs.declared.frames.Line.the-variants.{Opens, Gives}
 use Rattle.tables.proofs.Heads.{Framed, framed, full, no-frames}
 use Rattle.tables.proofs.Places.{row-next}
 use Rattle.tables.proofs.Accepted.{Placed, placed-first, after-open, after-give, rows-fit, rows-none}

@@ -1,8 +1,8 @@
 -- The invariant: v is the number of the digits passed. Assumes nothing.
-use mathlib.Core.Path.{_≡_, refl, sym, ap, _∙_}
-use Prim.Native.Nat.{ℕ, _+_, _*_, _-_, _≤_, _<_, _^_}
+use mathlib.Core.Path.{_≡_, refl}
+use Prim.Native.Nat.{_+_, _*_, _-_, _≤_, _<_, _^_}
 use native.Mathlib.Omega.{arith}
-use lib.ListN.{length, take, drop, getD}
+use lib.ListN.{take, drop, getD}
 use Rattle.tables.specs.Lines.{number, field, hexDigit}
 use Rattle.tables.proofs.Lines.{number-next, number-room}
 use Rattle.tables.proofs.frames.field.Statement.{statement}

@@ -38,7 +38,7 @@ digits c = sym (c .before .is-digits-line .ensures) ∙ not-false _ (c .if2 .lef
 field-requires : tie.Need-field-requires
 field-requires c κs =
     let g = c .before .before .before .before .before .args in
-    field-asks (g .text .now) (g .at) (g .at) 0 2 (omega arith) (omega arith) (digits c) (omega arith) (omega arith)
+    field-asks 36 (g .text .now) (g .at) (digits c) (g .at) 0 2 (omega arith) (omega arith) (omega arith) (omega arith)
 
 -- the answer goes by the first byte
 kind : (c : tie.After-field)
@@ -54,7 +54,7 @@ add-field c = search needs
 field-requires-2 : tie.Need-field-requires-2
 field-requires-2 c κs =
     let g = c .before .before .before .before .before .before .before .args in
-    field-asks (g .text .now) (g .at) (g .at + 2) 2 2 refl (omega arith) (digits (c .before .before)) (omega arith) (omega arith)
+    field-asks 36 (g .text .now) (g .at) (digits (c .before .before)) (g .at + 2) 2 2 refl (omega arith) (omega arith) (omega arith)
 
 returns-3 : tie.Need-returns-3
 returns-3 c = rw (kind (c .before .before), eq-eqb _ _ (c .before .if3 .taken), c .field2 .ensures)
@@ -65,7 +65,7 @@ add-field-2 c = search needs
 field-requires-3 : tie.Need-field-requires-3
 field-requires-3 c κs =
     let g = c .before .before .before .before .before .before .before .before .args in
-    field-asks (g .text .now) (g .at) (g .at + 2) 2 2 refl (omega arith) (digits (c .before .before .before)) (omega arith) (omega arith)
+    field-asks 36 (g .text .now) (g .at) (digits (c .before .before .before)) (g .at + 2) 2 2 refl (omega arith) (omega arith) (omega arith)
 
 returns-4 : tie.Need-returns-4
 returns-4 c = rw (kind (c .before .before .before), ne-eqb _ _ (c .before .before .if3 .left), eq-eqb _ _ (c .before .if4 .taken), c .field3 .ensures)

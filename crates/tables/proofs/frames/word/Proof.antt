@@ -12,7 +12,7 @@ add-field c = search needs
 field-requires : tie.Need-field-requires
 field-requires c κs =
     let g = c .before .args in
-    field-asks (g .text .now) (g .at) (g .at + g .i) (g .i) 8 refl (c .before .pre .0) (c .before .pre .1) (c .before .pre .2) (omega arith)
+    field-asks 36 (g .text .now) (g .at) (c .before .pre .1) (g .at + g .i) (g .i) 8 refl (c .before .pre .0) (c .before .pre .2) (omega arith)
 
 returns : tie.Need-returns
 returns c = let g = c .before .before .args in c .field .ensures ∙ field-from (g .text .now) (g .at) (g .at + g .i) (g .i) 8 refl

@@ -1,5 +1,4 @@
 use borrow.Author.Tests.{eq-eqb, ne-eqb, lt-ltb, le-ltb}
-use Rattle.tables.proofs.Tests.{and-left, and-right}
 use Rattle.tables.proofs.placing.may_open.Statement.{statement}
 use Rattle.tables.proofs.placing.may_open.Tie as tie
 
