@@ -1,14 +1,13 @@
 -- A choice worked out with the registers beside the state's words is the choice of the whole state. Assumes nothing.
 use mathlib.Core.Path.{_≡_, refl, sym, ap, ap₂, _∙_, fun-ext}
-use mathlib.Core.Logic.{_≢_}
 use mathlib.Core.Bool.{Bool, true, false, not, _||_, _&&_, cond}
-use mathlib.Core.List.{List, [], _∷_, _++_}
+use mathlib.Core.List.{List, []}
 use Prim.Native.Nat.{ℕ, zero, suc, _+_, _*_, _-_, _/_, _%_, _≤_, _<_, max}
-use native.Mathlib.Decide.{decLt, ℕ-discrete}
+use native.Mathlib.Decide.{decLt}
 use native.Mathlib.Omega.{arith}
 use lib.Dec.{eqb, leb, ltb}
 use lib.ListN.{length, take, drop, getD, set, length-take, length-drop, length-set}
-use lib.Seq.{sets, length-sets, getD-set-same, getD-set-other, ext-getD}
+use lib.Seq.{length-sets, ext-getD}
 use borrow.Author.Tests.{le-leb}
 use Rattle.tables.specs.Basics.{first, allBelow}
 use Rattle.tables.specs.Layout.{agents, rows, row}
@@ -26,7 +25,7 @@ use Rattle.executive.specs.Registers.{around, listed, register, withRegs
 use Rattle.executive.proofs.Lists.{getD-part}
 use Rattle.executive.proofs.Around.{listed-length, listed-at, around-length, around-low, around-mid, around-high, around-own, around-around, around-set, around-sets}
 use Rattle.executive.proofs.Choice.{allowed}
-use Rattle.executive.proofs.After.{next, after-four, accepted-self, accepted-length, accepted-other}
+use Rattle.executive.proofs.After.{next, after-four, accepted-self}
 
 -- ---- the reply goes by the clock and the positions alone
 

@@ -1,27 +1,23 @@
 -- The deadline of all agents: a time is in time where it is not above it; what an agent that has ended, or not, adds to it. Assumes nothing.
-use mathlib.Core.Path.{_≡_, refl, sym, ap, ap₂, _∙_}
+use mathlib.Core.Path.{_≡_, refl, sym, _∙_}
 use mathlib.Core.Bool.{Bool, true, false, not, _&&_, _||_}
 use mathlib.Core.List.{List}
 use Prim.Native.Nat.{ℕ, _+_, _≤_, _<_, _^_, max}
 use native.Mathlib.Decide.{decLe}
 use native.Mathlib.Numerals.{add-one}
 use native.Mathlib.Omega.{arith}
-use lib.Dec.{ltb, leb}
+use lib.Dec.{leb}
 use borrow.Author.Tests.{le-leb, lt-leb, le-ltb, lt-ltb}
 use Rattle.tables.specs.Basics.{allBelow}
 use Rattle.tables.specs.Layout.{rows, row}
-use Rattle.tables.proofs.Tests.{and-both}
 use Rattle.executive.specs.State.{clock, pos}
 use Rattle.executive.specs.Fit.{unfinished, current, inTime}
 use Rattle.executive.specs.Step.{canGo}
 
 -- a test over one number more
-pub below-next : (n : ℕ) (f : ℕ → Bool) → allBelow (n + 1) f ≡ (allBelow n f && f n)
+pub below-suc : (n : ℕ) (f : ℕ → Bool) → allBelow (n + 1) f ≡ (allBelow n f && f n)
 unfolding allBelow
-below-next n f = rw (add-one n)
-
-pub below-on : (n : ℕ) (f : ℕ → Bool) → allBelow n f ≡ true → f n ≡ true → allBelow (n + 1) f ≡ true
-below-on n f h k = below-next n f ∙ and-both (allBelow n f) (f n) h k
+below-suc n f = rw (add-one n)
 
 -- two tests of one answer
 same-leb : (a b d e : ℕ) → (a ≤ b → d ≤ e) → (d ≤ e → a ≤ b) → leb a b ≡ leb d e

@@ -1,5 +1,5 @@
 -- What a row does to its agent, by its op. Assumes nothing.
-use mathlib.Core.Path.{_≡_, refl, ap, _∙_}
+use mathlib.Core.Path.{_≡_, ap, _∙_}
 use Prim.Native.Nat.{ℕ, zero, suc, _+_, _-_, _/_, _%_, _^_, _<_}
 use native.Mathlib.Nat.{pow-suc}
 use native.Mathlib.Omega.{arith}
@@ -10,7 +10,6 @@ use borrow.Author.Tests.{ne-eqb}
 use Rattle.tables.specs.declared.Row.{Row}
 use Rattle.executive.specs.declared.Agent.{Agent}
 use Rattle.executive.specs.declared.Best.{Best}
-use Rattle.executive.specs.declared.Best.the-variants.{Nothing, Message}
 use Rattle.executive.specs.Effect.{after, put, goTo, receive}
 
 -- the language's count of one bits is that of 32 bits

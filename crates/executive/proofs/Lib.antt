@@ -20,3 +20,4 @@ pub mod Grids
 pub mod Front
 pub mod Outcomes
 pub mod RunOn
+pub mod Marks

@@ -1,17 +1,18 @@
 -- A run worked out with the registers beside the state: what one choice makes of what is left to run. Assumes nothing.
-use mathlib.Core.Path.{_≡_, refl, sym, ap, ap₂, subst, _∙_}
+use mathlib.Core.Path.{_≡_, refl, sym, ap, ap₂, _∙_}
 use mathlib.Core.Bool.{true}
 use mathlib.Core.List.{List, [], _∷_}
-use Prim.Native.Nat.{ℕ, zero, suc, _+_, _*_, _-_, _/_, _%_, _≤_, _<_}
+use Prim.Native.Nat.{ℕ, zero, suc, _+_, _-_, _/_, _%_, _≤_, _<_}
 use native.Mathlib.Decide.{ℕ-discrete}
 use native.Mathlib.Omega.{arith}
+use borrow.Author.Tests.{eq-eqb, ne-eqb}
 use lib.ListN.{length, take, drop, getD, set, length-take, length-drop, length-set, drop-of-length-le}
 use lib.Seq.{drop-cons, getD-set-same, getD-set-other, ext-getD}
 use Rattle.tables.specs.Table.{goodTable}
 use Rattle.executive.specs.declared.Agent.{Agent}
 use Rattle.executive.specs.State.{agentAt, startWords, regPlace}
 use Rattle.executive.specs.Step.{choiceReply, accepted}
-use Rattle.executive.specs.Registers.{around, listed, register, withRegs, ChoiceOutcome, chosen, nobody, chooseInto}
+use Rattle.executive.specs.Registers.{around, listed, register, withRegs, ChoiceOutcome, chosen, chooseInto, wordsAfter}
 use Rattle.executive.specs.Run.{RunOutcome, ended, runFrom}
 use Rattle.executive.proofs.Lists.{getD-part}
 use Rattle.executive.proofs.After.{accepted-length, accepted-other}
@@ -43,19 +44,25 @@ module _ (tb st : List ℕ) (g : List (List ℕ)) (a t : ℕ) where
       go (suc r) h = ap (λ (o : ChoiceOutcome). o .reply) (by-reply tb st g a t (suc r) h)
 
   module _ (r : ℕ) (q : Agent) (ws : List ℕ) (e : chosen r q ws ≡ chooseInto tb st g a t) where
-    chosen-reply : choiceReply tb (withRegs st g) a t ≡ r
+    pub chosen-reply : choiceReply tb (withRegs st g) a t ≡ r
     chosen-reply = sym (ap (λ (o : ChoiceOutcome). o .reply) e ∙ reply-is)
 
-    -- a refusal ends the run, and leaves the words
+    -- a refusal leaves the words, and ends the run
+    pub refused-words : (r ≡ 0 → ⊥) → ws ≡ st
+    refused-words k = go r refl
+      where
+        go : (m : ℕ) → r ≡ m → ws ≡ st
+        go zero z = absurd (k z)
+        go (suc m) z = ap (λ (o : ChoiceOutcome). o .state) (e ∙ by-reply tb st g a t (suc m) (chosen-reply ∙ z))
+
     pub refused-run : (n : ℕ) (cs : List ℕ) → (r ≡ 0 → ⊥) → runFrom tb (withRegs st g) n (a ∷ t ∷ cs) ≡ ended r n (withRegs ws g)
     refused-run n cs k = go r refl
       where
         go : (m : ℕ) → r ≡ m → runFrom tb (withRegs st g) n (a ∷ t ∷ cs) ≡ ended r n (withRegs ws g)
         go zero z = absurd (k z)
         go (suc m) z =
-            let s = ap (λ (o : ChoiceOutcome). o .state) (e ∙ by-reply tb st g a t (suc m) (chosen-reply ∙ z)) in
             run-stop tb (withRegs st g) n a t cs m (chosen-reply ∙ z)
-            ∙ ap₂ (λ (x : ℕ) (l : List ℕ). ended x n (withRegs l g)) (sym z) (sym s)
+            ∙ ap₂ (λ (x : ℕ) (l : List ℕ). ended x n (withRegs l g)) (sym z) (sym (refused-words k))
 
     -- an accepted one goes on with its agent's registers put in
     module _ (z : r ≡ 0) (long : length st ≡ 1105) (wide : length g ≡ 16) (low : a < 16) where
@@ -106,7 +113,7 @@ module _ (tb st : List ℕ) (g : List (List ℕ)) (a t : ℕ) where
           let l : i < 64 = omega arith in
           listed-at (register x) 64 i 0 l ∙ registers-are i l ∙ sym (getD-part after 64 17 i l))
 
-      whole-after : withRegs ws (set g a (q .regs)) ≡ after
+      pub whole-after : withRegs ws (set g a (q .regs)) ≡ after
       whole-after =
           ap₂ (λ (l : List ℕ) (s : Agent). withRegs l (set g a (s .regs))) words-are agent-is
           ∙ around-around after (take 64 (drop 17 st)) (listed (register (set g a (agentAt after a .regs))) 64) (omega (arith, after-length)) own-length
@@ -116,6 +123,21 @@ module _ (tb st : List ℕ) (g : List (List ℕ)) (a t : ℕ) where
 
       pub accepted-run : (n : ℕ) (cs : List ℕ) → runFrom tb (withRegs st g) n (a ∷ t ∷ cs) ≡ runFrom tb (withRegs ws (set g a (q .regs))) (n + 1) cs
       accepted-run n cs = run-go tb (withRegs st g) n a t cs (chosen-reply ∙ z) ∙ ap (λ (l : List ℕ). runFrom tb l (n + 1) cs) (sym whole-after)
+
+-- ---- one step, the registers put back at once
+
+module _ (tb st : List ℕ) (g : List (List ℕ)) (a t r : ℕ) (q : Agent) (ws : List ℕ) (loaded : withRegs st g ≡ st) (e : chosen r q ws ≡ chooseInto tb st g a t) where
+  pub step-reply : r ≡ choiceReply tb st a t
+  step-reply = sym (chosen-reply tb st g a t r q ws e) ∙ ap (λ (l : List ℕ). choiceReply tb l a t) loaded
+
+  pub step-refused : (r ≡ 0 → ⊥) → ws ≡ wordsAfter tb st a t
+  unfolding wordsAfter
+  step-refused k = rw (← step-reply, ne-eqb r 0 k) (refused-words tb st g a t r q ws e k)
+
+  pub step-accepted : r ≡ 0 → length st ≡ 1105 → length g ≡ 16 → a < 16 → withRegs ws (set g a (q .regs)) ≡ wordsAfter tb st a t
+  unfolding wordsAfter
+  step-accepted z long wide low =
+      rw (← step-reply, eq-eqb r 0 z) (whole-after tb st g a t r q ws e z long wide low ∙ ap (λ (l : List ℕ). accepted tb l a t) loaded)
 
 -- ---- the count is at most 512
 
@@ -137,32 +159,50 @@ count-bound tb good long cs st ds n e =
     let q = ap (λ (o : RunOutcome). o .count) e in
     omega arith
 
--- ---- one turn of the loop over the choices cs: n are accepted, i words of cs are read, and what is left ends as the whole run does
+-- ---- one turn of the loop over the choices cs
 
-module _ (tb : List ℕ) (good : goodTable tb ≡ true) (long-tb : length tb ≡ 2129) (cs st : List ℕ) (g : List (List ℕ)) (i n : ℕ)
-    (long : length st ≡ 1105) (wide : length g ≡ 16) (left : runFrom tb (withRegs st g) n (drop i cs) ≡ runFrom tb (startWords tb) 0 cs)
-    (more : i + 1 < length cs) (r : ℕ) (q : Agent) (ws : List ℕ) (e : chosen r q ws ≡ chooseInto tb st g (getD cs i 0) (getD cs (i + 1) 0)) where
+-- n are accepted, i words of cs are read, and what is left of them, from the words st with the registers g, ends as the whole run does
+pub record Left (tb cs st : List ℕ) (g : List (List ℕ)) (n i : ℕ) : Type 0 where
+  pub read : i ≤ length cs
+  pub even : i % 2 ≡ 0
+  pub long : length st ≡ 1105
+  pub wide : length g ≡ 16
+  pub ends : runFrom tb (withRegs st g) n (drop i cs) ≡ runFrom tb (startWords tb) 0 cs
+
+module _ (tb : List ℕ) (good : goodTable tb ≡ true) (long-tb : length tb ≡ 2129) (cs : List ℕ) (pairs : length cs % 2 ≡ 0)
+    (st : List ℕ) (g : List (List ℕ)) (n i : ℕ) (l : Left tb cs st g n i) (more : i < length cs)
+    (r : ℕ) (q : Agent) (ws : List ℕ) (e : chosen r q ws ≡ chooseInto tb st g (getD cs i 0) (getD cs (i + 1) 0)) where
   abbrev a : ℕ
   a = getD cs i 0
 
   abbrev t : ℕ
   t = getD cs (i + 1) 0
 
-  left-two : runFrom tb (withRegs st g) n (a ∷ t ∷ drop (i + 2) cs) ≡ runFrom tb (startWords tb) 0 cs
-  left-two = ap (runFrom tb (withRegs st g) n) (sym (two cs i more)) ∙ left
+  two-left : i + 1 < length cs
+  two-left = let v = l .even in omega arith
+
+  from-here : runFrom tb (withRegs st g) n (a ∷ t ∷ drop (i + 2) cs) ≡ runFrom tb (startWords tb) 0 cs
+  from-here = ap (runFrom tb (withRegs st g) n) (sym (two cs i two-left)) ∙ l .ends
 
   pub turn-ends : (r ≡ 0 → ⊥) → ended r n (withRegs ws g) ≡ runFrom tb (startWords tb) 0 cs
-  turn-ends k = sym (refused-run tb st g a t r q ws e n (drop (i + 2) cs) k) ∙ left-two
+  turn-ends k = sym (refused-run tb st g a t r q ws e n (drop (i + 2) cs) k) ∙ from-here
 
   module _ (z : r ≡ 0) where
     pub turn-low : a < 16
     turn-low = chosen-low tb (withRegs st g) good a t (chosen-reply tb st g a t r q ws e ∙ z)
 
-    pub turn-length : length ws ≡ 1105
-    turn-length = words-length tb st g a t r q ws e z long wide turn-low
-
-    pub turn-goes : runFrom tb (withRegs ws (set g a (q .regs))) (n + 1) (drop (i + 2) cs) ≡ runFrom tb (startWords tb) 0 cs
-    turn-goes = sym (accepted-run tb st g a t r q ws e z long wide turn-low n (drop (i + 2) cs)) ∙ left-two
+    next-ends : runFrom tb (withRegs ws (set g a (q .regs))) (n + 1) (drop (i + 2) cs) ≡ runFrom tb (startWords tb) 0 cs
+    next-ends = sym (accepted-run tb st g a t r q ws e z (l .long) (l .wide) turn-low n (drop (i + 2) cs)) ∙ from-here
 
     pub turn-count : n + 1 ≤ 512
-    turn-count = count-bound tb good long-tb cs (withRegs ws (set g a (q .regs))) (drop (i + 2) cs) (n + 1) turn-goes
+    turn-count = count-bound tb good long-tb cs (withRegs ws (set g a (q .regs))) (drop (i + 2) cs) (n + 1) next-ends
+
+    pub turn-goes : Left tb cs ws (set g a (q .regs)) (n + 1) (i + 2)
+    turn-goes =
+        record {
+          read = let h = two-left in omega arith;
+          even = let v = l .even in omega arith;
+          long = words-length tb st g a t r q ws e z (l .long) (l .wide) turn-low;
+          wide = length-set g a (q .regs) ∙ l .wide;
+          ends = next-ends;
+        }

@@ -1,6 +1,9 @@
 -- While steps are worked out the registers of all agents stand beside the state's words, which keep the words that they had. Assumes nothing.
+use mathlib.Core.Path.{_≡_, sym, _∙_}
+use mathlib.Core.Bool.{cond}
 use mathlib.Core.List.{List, [], _∷_, _++_}
 use Prim.Native.Nat.{ℕ, zero, suc, _/_, _%_}
+use lib.Dec.{eqb}
 use lib.ListN.{getD, take, drop}
 use Rattle.executive.specs.declared.Agent.{Agent}
 use Rattle.executive.specs.State.{agentAt}
@@ -44,3 +47,12 @@ chooseInto tb st g a t =
       | zero ↦ chosen 0 (agentAt (accepted tb full a t) a) (around (accepted tb full a t) (take 64 (drop 17 st)))
       | suc r ↦ chosen (suc r) nobody st
     ]
+
+-- the state's words after a choice: as they were where it is refused
+unfoldable pub wordsAfter : (tb st : List ℕ) (a t : ℕ) → List ℕ
+wordsAfter tb st a t = cond (eqb (choiceReply tb st a t) 0) (accepted tb st a t) st
+
+-- no two outcomes of one choice
+pub only-chosen : (tb st : List ℕ) (g : List (List ℕ)) (a t r s : ℕ) (q p : Agent) (after other : List ℕ) → chosen r q after ≡ chooseInto tb st g a t
+    → chosen s p other ≡ chooseInto tb st g a t → chosen r q after ≡ chosen s p other
+only-chosen tb st g a t r s q p after other e d = e ∙ sym d

@@ -1,12 +1,20 @@
 // The calls on lent words: of any words, any lengths and any numbers. What stands past a table's or a state's words is neither read nor written.
+use crate::Ran;
+use crate::checking::state_fits;
+use crate::running::run_choices;
 use crate::starting::put_start;
+use crate::stepping::step_once;
 use tables::checking::table_is_good;
-use tables::replies::{ACCEPTED, BAD_TABLE, TOO_SHORT};
-ghost use Rattle.executive.specs.Calls.{Started};
+use tables::replies::ACCEPTED;
+use tables::replies::BAD_STATE;
+use tables::replies::BAD_TABLE;
+use tables::replies::ODD_CHOICES;
+use tables::replies::TOO_SHORT;
+ghost use Rattle.executive.specs.Calls as Calls;
 
 // Replies 1, 8 or 0; where it is 0 the start state stands in the state's words.
 pub fn start(table: &[u32], state: &mut [u32]) -> u32
-    ensures { λ r. ⌜ Started (now (table .entry)) (now (state .entry)) r (now (state .exit)) ⌝ }
+    ensures { λ r. ⌜ Calls.Started (now (table .entry)) (now (state .entry)) r (now (state .exit)) ⌝ }
 {
     if table.len() < 2129 {
         return TOO_SHORT;
@@ -20,4 +28,56 @@ pub fn start(table: &[u32], state: &mut [u32]) -> u32
     }
     put_start(tb, &mut state[..1105]);
     ACCEPTED
+}
+
+// Replies 1, 8, 9, 10 to 15 or 0; where it is 0 the state's words are those after the step.
+pub fn step(table: &[u32], state: &mut [u32], agent: u32, time: u32) -> u32
+    ensures { λ r. ⌜ Calls.Stepped (now (table .entry)) (now (state .entry)) agent time r (now (state .exit)) ⌝ }
+{
+    if table.len() < 2129 {
+        return TOO_SHORT;
+    }
+    if state.len() < 1105 {
+        return TOO_SHORT;
+    }
+    let tb = &table[..2129];
+    if !table_is_good(tb) {
+        return BAD_TABLE;
+    }
+    if !state_fits(tb, &state[..1105]) {
+        return BAD_STATE;
+    }
+    step_once(tb, &mut state[..1105], agent, time)
+}
+
+// Replies 1, 16 or 8 and a count of 0; or it starts, takes the choices up to the first refusal, and replies with that and the count of accepted steps.
+pub fn run(table: &[u32], state: &mut [u32], choices: &[u32]) -> Ran
+    ensures { λ r. ⌜ Calls.Ran (now (table .entry)) (now (state .entry)) (now (choices .entry)) (r .reply) (r .count) (now (state .exit)) ⌝ }
+{
+    if table.len() < 2129 {
+        return Ran {
+            reply: TOO_SHORT,
+            count: 0,
+        };
+    }
+    if state.len() < 1105 {
+        return Ran {
+            reply: TOO_SHORT,
+            count: 0,
+        };
+    }
+    if choices.len() % 2 == 1 {
+        return Ran {
+            reply: ODD_CHOICES,
+            count: 0,
+        };
+    }
+    let tb = &table[..2129];
+    if !table_is_good(tb) {
+        return Ran {
+            reply: BAD_TABLE,
+            count: 0,
+        };
+    }
+    run_choices(tb, &mut state[..1105], choices)
 }

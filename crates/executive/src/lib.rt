@@ -3,6 +3,7 @@ mod agents; // agents.rt: what a row does to its agent, one method for each fami
 mod messages; // messages.rt: the best of the messages that a row sees
 pub mod starting; // starting.rt: the start state of a table
 mod deadlines; // deadlines.rt: the deadline of all agents, and whether any agent can go
+mod checking; // checking.rt: whether a state fits a table
 pub mod registers; // registers.rt: the registers of all agents, out of a state's words and back into them
 pub mod stepping; // stepping.rt: the reply to a choice, and its effect
 mod running; // running.rt: a run over a list of choices

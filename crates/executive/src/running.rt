@@ -1,6 +1,7 @@
 // A run over a list of choices, from the start state of a good table.
 use crate::Ran;
-use crate::registers::{load_registers, store_registers};
+use crate::registers::load_registers;
+use crate::registers::store_registers;
 use crate::starting::put_start;
 use crate::stepping::choose;
 use tables::replies::ACCEPTED;

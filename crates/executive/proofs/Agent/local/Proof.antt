@@ -1,3 +1,4 @@
+-- `local` meets its contract: the value that `local_value` gives is put into the register. Assumes nothing.
 use mathlib.Core.Path.{refl}
 use borrow.Author.Needs.{needs}
 use Rattle.executive.proofs.Agent.local.Statement.{statement}

@@ -1,3 +1,4 @@
+-- `moved` meets its contract: each way on is a clause of `after`. Assumes nothing.
 use native.Mathlib.Omega.{arith}
 use Rattle.executive.proofs.Effects.{after-jump, after-skip, after-stay}
 use borrow.Author.Needs.{needs}

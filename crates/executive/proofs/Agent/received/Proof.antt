@@ -1,3 +1,4 @@
+-- `received` meets its contract: by whether a message is found. Assumes nothing.
 use Rattle.executive.specs.Effect.{receive}
 use Rattle.executive.proofs.Effects.{after-receive}
 use borrow.Author.Needs.{needs}

@@ -1,3 +1,4 @@
+-- `sent` meets its contract: the agent only goes on. Assumes nothing.
 use Rattle.executive.proofs.Effects.{after-send}
 use borrow.Author.Needs.{needs}
 use Rattle.executive.proofs.Agent.sent.Statement.{statement}

@@ -1,3 +1,4 @@
+-- `local_value` meets its contract: each op is a clause of `after`, the language's operations being those of the definition. Assumes nothing.
 use native.Mathlib.Omega.{arith}
 use Rattle.executive.proofs.Effects.{ones-of-word, after-set, after-add, after-sub, after-ones, after-low}
 use borrow.Author.Needs.{needs}

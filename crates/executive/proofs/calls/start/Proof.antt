@@ -1,4 +1,5 @@
-use mathlib.Core.Path.{_≡_, refl, sym, ap, _∙_}
+-- `start` meets its contract: the tests of `startReply` in their order; the words past the state follow. Assumes nothing.
+use mathlib.Core.Path.{sym, ap, _∙_}
 use native.Mathlib.Omega.{arith}
 use mathlib.Core.List.{List, _++_}
 use Prim.Native.Nat.{ℕ}

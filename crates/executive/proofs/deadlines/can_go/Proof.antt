@@ -1,5 +1,6 @@
+-- `can_go` meets its contract: neither the clock nor the row's early is past the deadline. Assumes nothing.
 use Prim.Native.Nat.{_+_, _*_}
-use mathlib.Core.Path.{_≡_, refl, sym, ap, _∙_}
+use mathlib.Core.Path.{sym}
 use native.Mathlib.Omega.{arith}
 use Rattle.executive.proofs.Deadline.{ended-stays, late-stays, early-goes}
 use Rattle.tables.specs.Layout.{rowOf}

@@ -1,14 +1,15 @@
-use mathlib.Core.Path.{_≡_, refl, sym, ap, ap₂, _∙_}
+-- `deadline` meets its contract: the loop holds the deadline of the agents passed. Assumes nothing.
+use mathlib.Core.Path.{_≡_, sym, ap, ap₂, _∙_}
 use native.Mathlib.Omega.{arith}
 use mathlib.Core.Logic.{⊎-elim}
-use mathlib.Core.Bool.{Bool, not, _&&_, _||_}
-use Prim.Native.Nat.{ℕ, _+_, _-_, _≤_, _<_, _^_}
+use mathlib.Core.Bool.{not, _&&_, _||_}
+use Prim.Native.Nat.{ℕ, _-_, _≤_, _<_, _^_}
 use lib.Dec.{leb}
 use Rattle.tables.specs.Basics.{allBelow}
 use Rattle.tables.specs.Layout.{agents}
 use Rattle.executive.specs.Fit.{unfinished, current, inTime}
 use Rattle.tables.proofs.Good.{few, few-rows}
-use Rattle.executive.proofs.Deadline.{below-next, leb-less, leb-more, no-limit}
+use Rattle.executive.proofs.Deadline.{below-suc, leb-less, leb-more, no-limit}
 use Rattle.executive.proofs.deadlines.deadline.Statement.{statement}
 use Rattle.executive.proofs.deadlines.deadline.Tie as tie
 
@@ -51,7 +52,7 @@ loop-again c =
       omega arith,
       l .inv .1,
       λ t w.
-          below-next (l .b) _
+          below-suc (l .b) _
           ∙ ap₂ _&&_ (l .inv .2 t w) (e .ensures t w)
           ∙ ⊎-elim
           (λ u. leb-less t (l .d) (e .result) (u .0 .taken) ∙ ap (leb t) (sym (u .1)))

@@ -1,4 +1,5 @@
-use Prim.Native.Nat.{_+_, _*_}
+-- `deadline_of` meets its contract: by whether the agent has ended. Assumes nothing.
+use Prim.Native.Nat.{_+_}
 use native.Mathlib.Omega.{arith}
 use Rattle.executive.proofs.Deadline.{ended-limit, row-limit}
 use Rattle.tables.specs.Layout.{rowOf}

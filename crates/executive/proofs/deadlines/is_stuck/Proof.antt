@@ -1,13 +1,14 @@
-use mathlib.Core.Path.{_≡_, refl, sym, ap, _∙_}
+-- `is_stuck` meets its contract: the loop holds that no agent passed can go. Assumes nothing.
+use mathlib.Core.Path.{_≡_, sym, _∙_}
 use native.Mathlib.Omega.{arith}
 use mathlib.Core.Bool.{true, not}
-use Prim.Native.Nat.{ℕ, _-_, _≤_}
+use Prim.Native.Nat.{_-_, _≤_}
 use Rattle.tables.specs.Basics.{allBelow}
 use Rattle.tables.specs.Layout.{agents}
 use Rattle.tables.proofs.Passed.{not-all-below}
 use Rattle.executive.specs.Step.{canGo, stuck}
 use Rattle.tables.proofs.Good.{few, few-rows}
-use Rattle.executive.proofs.Deadline.{below-on}
+use Rattle.tables.proofs.Loops.{below-none, below-next}
 use Rattle.executive.proofs.deadlines.is_stuck.Statement.{statement}
 use Rattle.executive.proofs.deadlines.is_stuck.Tie as tie
 
@@ -24,10 +25,9 @@ cast-n : tie.Need-cast-n Inv-loop μ-loop
 cast-n c = omega (arith, c .shared-slice-known3 .given 0)
 
 loop-holds : tie.Need-loop-holds Inv-loop μ-loop
-unfolding allBelow
 loop-holds c =
     let low = few (c .before .before .before .args .table .now) (c .before .before .before .pre .0 .2) in
-    (omega arith, omega arith, refl)
+    (omega arith, omega arith, below-none _)
 
 can-go-requires : tie.Need-can-go-requires Inv-loop μ-loop
 can-go-requires c κs =
@@ -50,7 +50,7 @@ loop-less c = omega arith
 loop-again : tie.Need-loop-again Inv-loop μ-loop
 loop-again c =
     let l = c .before .before .before .loop in
-    (omega arith, l .inv .1, below-on _ _ (l .inv .2) (rw (sym (c .before .can-go .ensures) ∙ c .if1 .left)))
+    (omega arith, l .inv .1, below-next _ _ (l .inv .2) (rw (sym (c .before .can-go .ensures) ∙ c .if1 .left)))
 
 returns-2 : tie.Need-returns-2 Inv-loop μ-loop
 unfolding stuck

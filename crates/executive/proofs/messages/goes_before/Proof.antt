@@ -1,3 +1,4 @@
+-- `goes_before` meets its contract: the tests of `beats` in their order. Assumes nothing.
 use borrow.Author.Tests.{le-ltb, eq-eqb}
 use Rattle.tables.proofs.Tests.{firsts}
 use Rattle.executive.specs.Messages.{beats}

@@ -1,3 +1,4 @@
+-- `is_visible` meets its contract: the three tests in their order. Assumes nothing.
 use borrow.Author.Tests.{eq-eqb, ne-eqb}
 use Rattle.executive.specs.Messages.{visible}
 use Rattle.tables.specs.Layout.{rowOf}

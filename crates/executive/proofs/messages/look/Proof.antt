@@ -1,5 +1,6 @@
+-- `look` meets its contract: by whether the message is visible, and goes before the best so far. Assumes nothing.
 use borrow.Author.Tests.{not-true, not-false}
-use mathlib.Core.Path.{_≡_, refl, sym, ap, _∙_}
+use mathlib.Core.Path.{sym, _∙_}
 use Rattle.executive.specs.Messages.{look}
 use Rattle.tables.specs.Layout.{rowOf}
 use borrow.Author.Needs.{needs}

@@ -1,3 +1,4 @@
+-- `four_from` meets its contract: four words read one by one. Assumes nothing.
 use native.Mathlib.Omega.{arith}
 use Rattle.executive.proofs.Around.{four-words}
 use borrow.Author.Needs.{needs}

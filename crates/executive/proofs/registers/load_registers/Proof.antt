@@ -1,6 +1,7 @@
-use mathlib.Core.Path.{_≡_, refl, sym, ap, _∙_}
-use mathlib.Core.List.{List, [], _++_, append-nil}
-use Prim.Native.Nat.{ℕ, _-_, _≤_, zero-le}
+-- `load_registers` meets its contract: the loop holds the registers of the agents passed. Assumes nothing.
+use mathlib.Core.Path.{_≡_, refl, ap, _∙_}
+use mathlib.Core.List.{[], _++_, append-nil}
+use Prim.Native.Nat.{_-_, _≤_, zero-le}
 use lib.ListN.{drop, replicate}
 use native.Mathlib.Omega.{arith}
 use Rattle.executive.specs.Registers.{listed, withRegs}

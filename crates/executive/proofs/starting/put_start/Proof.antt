@@ -1,9 +1,9 @@
-use mathlib.Core.Path.{_≡_, refl, sym, ap, _∙_}
+-- `put_start` meets its contract: the loop holds the words written from the front. Assumes nothing.
+use mathlib.Core.Path.{_≡_, refl, ap, _∙_}
 use native.Mathlib.Omega.{arith}
-use mathlib.Core.List.{List, _++_, append-nil}
+use mathlib.Core.List.{List}
 use Prim.Native.Nat.{ℕ, _-_, _≤_}
-use lib.ListN.{length, set, getD, drop, length-set, drop-of-length-le}
-use lib.Seq.{take-all}
+use lib.ListN.{length, set, getD, length-set}
 use Rattle.executive.specs.State.{startWords}
 use Rattle.executive.proofs.Start.{start-length}
 use Rattle.executive.proofs.Front.{front, front-more, front-all}

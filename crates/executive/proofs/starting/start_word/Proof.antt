@@ -1,4 +1,5 @@
-use mathlib.Core.Path.{_≡_, refl, sym, ap, _∙_}
+-- `start_word` meets its contract: by the part of the state that the word stands in. Assumes nothing.
+use mathlib.Core.Path.{sym}
 use native.Mathlib.Omega.{arith}
 use Rattle.executive.specs.State.{startWords}
 use Rattle.executive.proofs.Start.{start-low, start-register, start-high}

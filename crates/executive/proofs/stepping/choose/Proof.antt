@@ -1,5 +1,6 @@
+-- `choose` meets its contract: what is made on the way is what an accepted choice of the whole state makes. Assumes nothing.
 use Rattle.executive.proofs.Grids.{grid-four}
-use mathlib.Core.Path.{_≡_, refl, sym, ap, _∙_}
+use mathlib.Core.Path.{_≡_, sym, _∙_}
 use native.Mathlib.Omega.{arith}
 use mathlib.Core.List.{[]}
 use lib.ListN.{length, getD}

@@ -1,6 +1,5 @@
-use mathlib.Core.Path.{_≡_, refl, sym, ap, _∙_}
-use native.Mathlib.Omega.{arith}
-use Rattle.tables.specs.declared.Row.{Row}
+-- `effect` meets its contract: by the family of the row's op; a good table has no unknown op. Assumes nothing.
+use mathlib.Core.Path.{sym, ap, _∙_}
 use Rattle.tables.proofs.Families.{local-op, move-op, send-op, receive-op, known-row, x-range, y-range, n-range}
 use Rattle.executive.specs.declared.Best.{Best}
 use Rattle.executive.specs.Effect.{after}

@@ -1,3 +1,4 @@
+-- `put_choice` meets its contract: its stores are those of `withSent`. Assumes nothing.
 use native.Mathlib.Omega.{arith}
 use borrow.Author.Tests.{eq-eqb, ne-eqb}
 use lib.ListN.{length-set}

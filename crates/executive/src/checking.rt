@@ -1,0 +1,114 @@
+// Whether a state fits a good table: what reply 9 denies.
+use crate::deadlines::deadline;
+use tables::rows::row_at;
+use tables::words::all_zero;
+ghost use mathlib.Core.Path.{_≡_};
+ghost use mathlib.Core.Bool.{true};
+ghost use mathlib.Core.List.{[], _∷_};
+ghost use Prim.Native.Nat.{_≤_, _<_};
+ghost use lib.ListN.{length};
+ghost use Rattle.tables.specs.Basics.{every, allBelow, zeroFrom};
+ghost use Rattle.tables.specs.Layout.{agents, rows, tableWords};
+ghost use Rattle.tables.specs.Table.{goodTable};
+ghost use Rattle.executive.specs.State.{posPlace, regPlace, markPlace, valuePlace, stateWords};
+ghost use Rattle.executive.specs.Fit.{goodMark, goodPlaces, fits};
+
+// Whether row i of agent a, below the agent's position, has a mark and a value that it may have.
+fn mark_is_good(table: &[u32], state: &[u32], a: usize, i: usize) -> bool
+    requires { ⌜ (tableWords ≤ length (now table)) × (stateWords ≤ length (now state)) × (a < 16) × (i < 32) ⌝ }
+    ensures { λ r. ⌜ r ≡ goodMark (now (table .entry)) (now (state .entry)) a i ⌝ }
+{
+    let mark = state[81 + (32 * a + i)];
+    if mark == 0 {
+        return state[593 + (32 * a + i)] == 0;
+    }
+    if mark != 1 {
+        return false;
+    }
+    let r = row_at(table, a, i);
+    r.op == 0x20
+}
+
+// Whether each row of agent a below p has.
+fn marks_are_good(table: &[u32], state: &[u32], a: usize, p: usize) -> bool
+    requires { ⌜ (tableWords ≤ length (now table)) × (stateWords ≤ length (now state)) × (a < 16) × (p ≤ 32) ⌝ }
+    ensures { λ r. ⌜ r ≡ allBelow p (goodMark (now (table .entry)) (now (state .entry)) a) ⌝ }
+{
+    for i in 0..p {
+        if !mark_is_good(table, state, a, i) {
+            return false;
+        }
+    }
+    true
+}
+
+// Whether agent a's position, marks and values are as they may be.
+fn places_are_good(table: &[u32], state: &[u32], a: usize) -> bool
+    requires { ⌜ (tableWords ≤ length (now table)) × (stateWords ≤ length (now state)) × (a < 16) × (rows (now table) a ≤ 32) ⌝ }
+    ensures { λ r. ⌜ r ≡ goodPlaces (now (table .entry)) (now (state .entry)) a ⌝ }
+{
+    let p = state[1 + a] as usize;
+    if (table[1 + a] as usize) < p {
+        return false;
+    }
+    if !marks_are_good(table, state, a, p) {
+        return false;
+    }
+    if !all_zero(state, 81 + (32 * a + p), 81 + (32 * (a + 1) + 0)) {
+        return false;
+    }
+    all_zero(state, 593 + (32 * a + p), 593 + (32 * (a + 1) + 0))
+}
+
+// Whether each agent's are.
+fn agents_are_good(table: &[u32], state: &[u32]) -> bool
+    requires { ⌜ (tableWords ≤ length (now table)) × (stateWords ≤ length (now state)) × (goodTable (now table) ≡ true) ⌝ }
+    ensures { λ r. ⌜ r ≡ allBelow (agents (now (table .entry))) (goodPlaces (now (table .entry)) (now (state .entry))) ⌝ }
+{
+    let n = table[0] as usize;
+    for a in 0..n {
+        if !places_are_good(table, state, a) {
+            return false;
+        }
+    }
+    true
+}
+
+// Whether the places from agent n on are 0.
+fn unused_are_zero(state: &[u32], n: usize) -> bool
+    requires { ⌜ (stateWords ≤ length (now state)) × (n ≤ 16) ⌝ }
+    ensures { λ r. ⌜ r ≡ every (zeroFrom (now (state .entry)) (posPlace n) 17 ∷ zeroFrom (now (state .entry)) (regPlace n) 81
+        ∷ zeroFrom (now (state .entry)) (markPlace n 0) 593 ∷ zeroFrom (now (state .entry)) (valuePlace n 0) stateWords ∷ []) ⌝ }
+{
+    if !all_zero(state, 1 + n, 17) {
+        return false;
+    }
+    if !all_zero(state, 17 + 4 * n, 81) {
+        return false;
+    }
+    if !all_zero(state, 81 + (32 * n + 0), 593) {
+        return false;
+    }
+    all_zero(state, 593 + (32 * n + 0), 1105)
+}
+
+// Whether the state fits the table.
+pub fn state_fits(table: &[u32], state: &[u32]) -> bool
+    requires { ⌜ (length (now table) ≡ tableWords) × (length (now state) ≡ stateWords) × (goodTable (now table) ≡ true) ⌝ }
+    ensures { λ r. ⌜ r ≡ fits (now (table .entry)) (now (state .entry)) ⌝ }
+{
+    let clock = state[0];
+    if clock < 1 {
+        return false;
+    }
+    if 1000000 < clock {
+        return false;
+    }
+    if deadline(table, state) < clock {
+        return false;
+    }
+    if !agents_are_good(table, state) {
+        return false;
+    }
+    unused_are_zero(state, table[0] as usize)
+}
