@@ -2,29 +2,19 @@
 use mathlib.Core.Path.{_≡_, refl, sym, ap, _∙_}
 use mathlib.Core.Bool.{Bool, true, false}
 use mathlib.Core.List.{List, [], _∷_, _++_}
-use Prim.Native.Nat.{ℕ, zero, suc, _+_, _-_, _≤_, _<_, min}
+use Prim.Native.Nat.{ℕ, zero, suc, _+_, _≤_, _<_}
 use native.Mathlib.Omega.{arith}
 use lib.Dec.{eqb}
-use lib.ListN.{length, take, drop, length-drop, length-take, take-append-drop, drop-of-length-le}
+use lib.ListN.{length, take, drop, length-drop, take-append-drop, drop-of-length-le}
 use lib.Seq.{drop-drop, take-take, take-at}
-use Rattle.tables.specs.Lines.{newline, lines, same, allHex, number, field, digitsLine}
+use Rattle.tables.specs.Lines.{newline, lines, number, field, digitsLine}
 use Rattle.tables.specs.Heads.{digitsAt}
-use Rattle.tables.proofs.Lines.{same-eq, hex-part}
-use Rattle.tables.proofs.Passed.{and-1, and-2}
-use Rattle.tables.proofs.Newlines.{lines-digits}
-use Rattle.tables.proofs.Heads.{field-from}
+use Rattle.tables.proofs.Passed.{and-1}
+use Rattle.tables.proofs.Newlines.{line-length, lines-digits}
+use Rattle.tables.proofs.Heads.{digits-room, field-from}
 use Rattle.traces.specs.Input.{goodChoice, badChoice, choicesIn}
 use Rattle.traces.specs.Places.{lineLength, choiceAt}
 use Rattle.traces.proofs.Places.{first-line}
-
--- ---- a line of n digits
-
-digits-length : (n : ℕ) (l : List ℕ) → digitsLine n l ≡ true → length l ≡ n + 1
-unfolding digitsLine
-digits-length n l h =
-    let d = same-eq (drop n l) (newline ∷ []) (and-2 (allHex (take n l)) (same (drop n l) (newline ∷ [])) h) in
-    let e : length l - n ≡ 1 = sym (length-drop n l) ∙ ap length d in
-    omega arith
 
 cut : (n m k : ℕ) (l : List ℕ) → m + n ≤ k → take n (drop m (take k l)) ≡ take n (drop m l)
 cut n zero k l h = take-take n k l (omega arith)
@@ -35,27 +25,10 @@ cut n (suc m) (suc k) (x ∷ l) h = cut n m k l (omega arith)
 -- ---- a line of 12 digits at a place
 
 module _ (text : List ℕ) (p : ℕ) (d : digitsAt 12 text p ≡ true) where
-  pub choice-room : p ≤ length text → p + 13 ≤ length text
-  unfolding digitsAt
-  choice-room h =
-      let w : min 13 (length text - p) ≡ 13 = simp (length-take, length-drop) at (digits-length 12 (take 13 (drop p text)) d) in omega arith
-
-  choice-hex : allHex (take 12 (drop p text)) ≡ true
-  unfolding digitsAt digitsLine
-  choice-hex =
-      sym (ap allHex (take-take 12 13 (drop p text) (omega arith)))
-      ∙ and-1 (allHex (take 12 (take 13 (drop p text)))) (same (drop 12 (take 13 (drop p text))) (newline ∷ [])) d
-
   -- k digits from digit i of the line
-  module _ (i k : ℕ) (h : i + k ≤ 12) where
-    pub choice-field : field (take 13 (drop p text)) i k ≡ field text (p + i) k
-    unfolding field
-    choice-field = ap (number 0) (cut k i 13 (drop p text) (omega arith)) ∙ sym (field-from text p (p + i) i k refl)
-
-    pub choice-asks : p ≤ length text → k ≤ 8 → (p + i + k ≤ length text) × (k ≤ 8) × (allHex (take k (drop (p + i) text)) ≡ true)
-    choice-asks g j =
-        let r = choice-room g in
-        (omega arith, j, ap (λ (l : List ℕ). allHex (take k l)) (sym (drop-drop i p text)) ∙ hex-part (drop p text) 12 i k choice-hex h)
+  choice-field : (i k : ℕ) → i + k ≤ 12 → field (take 13 (drop p text)) i k ≡ field text (p + i) k
+  unfolding field
+  choice-field i k h = ap (number 0) (cut k i 13 (drop p text) (omega arith)) ∙ sym (field-from text p (p + i) i k refl)
 
   -- whether it is a choice line
   pub choice-if : choiceAt text p ≡ eqb (field text p 2) 2
@@ -75,6 +48,9 @@ module _ (text : List ℕ) (p : ℕ) (h : choiceAt text p ≡ true) where
   pub choice-digits : digitsAt 12 text p ≡ true
   unfolding choiceAt goodChoice digitsAt
   choice-digits = and-1 (digitsLine 12 (take 13 (drop p text))) (eqb (field (take 13 (drop p text)) 0 2) 2) h
+
+  pub choice-room : p ≤ length text → p + 13 ≤ length text
+  choice-room = digits-room 12 text p choice-digits
 
   choice-lines : lines (drop p text) ≡ take 13 (drop p text) ∷ lines (drop (p + 13) text)
   unfolding digitsAt
@@ -96,7 +72,7 @@ module _ (text : List ℕ) (p : ℕ) (i : p < length text) where
     where
       go : (b : Bool) → goodChoice l ≡ b → b ≡ false
       go true q =
-          let n = digits-length 12 l (and-1 (digitsLine 12 l) (eqb (field l 0 2) 2) q) in
+          let n = line-length 12 l (and-1 (digitsLine 12 l) (eqb (field l 0 2) 2) q) in
           let f : take 13 (drop p text) ≡ l = ap (take 13) e ∙ take-at l r 13 n in
           sym (ap goodChoice f ∙ q) ∙ h
       go false q = refl

@@ -24,7 +24,7 @@ use Rattle.traces.specs.Input.{badChoice, choicesIn}
 use Rattle.traces.specs.Output.{Traced, traced, after, stepLine, lastLine, traceFrom}
 use Rattle.traces.specs.Calls.{TraceOutcome, traceOutcome, longestOutput, written}
 use Rattle.traces.specs.Places.{choiceAt, placed}
-use Rattle.traces.proofs.Choices.{choice-room, choice-digits, bad-next, bad-here, choices-next, choices-none}
+use Rattle.traces.proofs.Choices.{choice-room, bad-next, bad-here, choices-next, choices-none}
 use Rattle.traces.proofs.Steps.{stepLine-length, lastLine-length, placed-after, placed-start, trace-go, trace-stop}
 
 -- the choices from a place on, and the whole output
@@ -122,7 +122,7 @@ module _ (tb choices out₀ out state : List ℕ) (regs : List (List ℕ)) (n at
             → Going tb choices out₀ out′ state′ regs′ (n + 1) (at + 13) (end + 47)
         on s out′ state′ regs′ good long es eo long′ wide ew =
             record {
-              within = choice-room choices at (choice-digits choices at is-choice) (g .within);
+              within = choice-room choices at is-choice (g .within);
               state-long = long′;
               regs-wide = wide;
               out-long = ap length eo ∙ length-sets out end (stepLine a t s) ∙ g .out-long;

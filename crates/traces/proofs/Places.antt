@@ -11,6 +11,7 @@ use borrow.Author.Tests.{eq-eqb, ne-eqb}
 use Rattle.tables.specs.Lines.{newline, endLine, onto, lines, same}
 use Rattle.tables.specs.Heads.{endAt}
 use Rattle.tables.proofs.Lines.{same-eq, same-self}
+use Rattle.tables.proofs.Newlines.{lines-end}
 use Rattle.traces.specs.Input.{tableBytes, tableText}
 use Rattle.traces.specs.Places.{lineLength}
 
@@ -123,12 +124,9 @@ no-end s l r e h = go (same l endLine) refl
     go false q = refl
 
 module _ (s : List ℕ) where
-  end-whole : same (take 3 s) endLine ≡ true → s ≡ endLine ++ drop 3 s
-  end-whole h = sym (take-append-drop 3 s) ∙ ap (λ (l : List ℕ). l ++ drop 3 s) (same-eq (take 3 s) endLine h)
-
   bytes-end : same (take 3 s) endLine ≡ true → tableBytes (lines s) ≡ 3
-  unfolding tableBytes lines same
-  bytes-end h = ap (λ (t : List ℕ). tableBytes (lines t)) (end-whole h)
+  unfolding tableBytes same
+  bytes-end h = rw (lines-end s h)
 
   bytes-next : 0 < length s → same (take 3 s) endLine ≡ false → tableBytes (lines s) ≡ lineLength s + tableBytes (lines (drop (lineLength s) s))
   unfolding tableBytes

@@ -19,25 +19,35 @@ use Rattle.traces.specs.Output.{traced, lastLine, traceFrom, traceOf}
 use Rattle.traces.proofs.Choices.{bad-any}
 use Rattle.traces.proofs.Parts.{read-told, read-table, trace-refused, trace-malformed, trace-steps}
 
-module _ (input : List ℕ) (short : length input ≤ longestInput) (at : ℕ) (here : at ≡ tableBytes (lines input)) (blank : List ℕ)
-    (long : length blank ≡ tableWords) (q : Told) (tb : List ℕ) (r : Read (take at input) blank q tb) where
+-- the table's text ends at a place, has n lines, and was read into words that have the length of a table
+pub record Reading (input : List ℕ) (at n : ℕ) (q : Told) (tb : List ℕ) : Type 0 where
+  pub short : length input ≤ longestInput
+  pub place : at ≡ tableBytes (lines input)
+  pub counted : n ≡ length (lines (tableText input))
+  pub blank : List ℕ
+  pub blank-long : length blank ≡ tableWords
+  pub read : Read (take at input) blank q tb
+
+module _ {input : List ℕ} {at n : ℕ} {q : Told} {tb : List ℕ} (r : Reading input at n q tb) where
   text : take at input ≡ tableText input
   unfolding tableText
-  text = rw here
+  text = rw (r .place)
 
   told-is : q ≡ framesReply (framesOf (tableText input))
   told-is =
-      ap (λ (x : ReadOutcome). x .told) r ∙ read-told (take at input) blank long ∙ ap (λ (t : List ℕ). framesReply (framesOf t)) text
+      ap (λ (x : ReadOutcome). x .told) (r .read)
+      ∙ read-told (take at input) (r .blank) (r .blank-long)
+      ∙ ap (λ (t : List ℕ). framesReply (framesOf t)) text
 
   pub table-refused : (q .reply ≡ 0 → ⊥) → traceOf input ≡ traced (q .reply) (lastLine (q .reply) (q .line))
-  table-refused n = go (q .reply) refl
+  table-refused k = go (q .reply) refl
     where
       go : (m : ℕ) → q .reply ≡ m → traceOf input ≡ traced (q .reply) (lastLine (q .reply) (q .line))
-      go zero e = absurd (n e)
+      go zero e = absurd (k e)
       go (suc m) e =
-          trace-refused input short m (ap (λ (x : Told). x .reply) (sym told-is) ∙ e)
+          trace-refused input (r .short) m (ap (λ (x : Told). x .reply) (sym told-is) ∙ e)
           ∙ ap (λ (l : ℕ). traced (suc m) (lastLine (suc m) l)) (ap (λ (x : Told). x .line) (sym told-is))
-          ∙ ap (λ (k : ℕ). traced k (lastLine k (q .line))) (sym e)
+          ∙ ap (λ (j : ℕ). traced j (lastLine j (q .line))) (sym e)
 
   module _ (h : q .reply ≡ 0) where
     accepted : framesReply (framesOf (tableText input)) .reply ≡ 0
@@ -45,8 +55,8 @@ module _ (input : List ℕ) (short : length input ≤ longestInput) (at : ℕ) (
 
     table-is : tb ≡ tableOf (framesOf (tableText input))
     table-is =
-        ap (λ (x : ReadOutcome). x .table) r
-        ∙ read-table (take at input) blank long (rw text accepted)
+        ap (λ (x : ReadOutcome). x .table) (r .read)
+        ∙ read-table (take at input) (r .blank) (r .blank-long) (rw text accepted)
         ∙ ap (λ (t : List ℕ). tableOf (framesOf t)) text
 
     pub table-good : goodTable tb ≡ true
@@ -55,22 +65,22 @@ module _ (input : List ℕ) (short : length input ≤ longestInput) (at : ℕ) (
     pub table-words : length tb ≡ tableWords
     table-words = rw table-is (table-length (framesOf (tableText input)))
 
-    -- the table's text has n lines, so the first choice line has the number n + 1
-    module _ (n bad : ℕ) (counted : n ≡ length (lines (tableText input))) (b : bad ≡ badChoice (n + 1) (lines (drop at input))) where
+    -- the first choice line has the number n + 1
+    module _ {bad : ℕ} (b : bad ≡ badChoice (n + 1) (lines (drop at input))) where
       bad-is : badChoiceOf input ≡ bad
       unfolding badChoiceOf choiceLines
-      bad-is = rw (b, counted, here)
+      bad-is = rw (b, r .counted, r .place)
 
       pub choice-malformed : (bad ≡ 0 → ⊥) → traceOf input ≡ traced 2 (lastLine 2 bad)
       choice-malformed k = go bad refl
         where
           go : (m : ℕ) → bad ≡ m → traceOf input ≡ traced 2 (lastLine 2 bad)
           go zero e = absurd (k e)
-          go (suc m) e = trace-malformed input short accepted m (bad-is ∙ e) ∙ ap (λ (j : ℕ). traced 2 (lastLine 2 j)) (sym e)
+          go (suc m) e = trace-malformed input (r .short) accepted m (bad-is ∙ e) ∙ ap (λ (j : ℕ). traced 2 (lastLine 2 j)) (sym e)
 
       pub none-malformed : bad ≡ 0 → badChoice 1 (lines (drop at input)) ≡ 0
       none-malformed k = bad-any (lines (drop at input)) (n + 1) 1 (omega arith) (sym b ∙ k)
 
       pub all-steps : bad ≡ 0 → traceOf input ≡ traceFrom tb (startWords tb) 0 (choicesIn (lines (drop at input)))
       unfolding choiceLines
-      all-steps k = rw (table-is, here) (trace-steps input short accepted (bad-is ∙ k))
+      all-steps k = rw (table-is, r .place) (trace-steps input (r .short) accepted (bad-is ∙ k))

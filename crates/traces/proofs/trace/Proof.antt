@@ -11,7 +11,7 @@ use Rattle.traces.specs.Input.{choicesIn, badChoice}
 use Rattle.traces.specs.Output.{traceFrom}
 use Rattle.traces.proofs.Parts.{trace-long}
 use Rattle.traces.proofs.Whole.{too-short, done, one-line}
-use Rattle.traces.proofs.Table.{table-refused, table-good, table-words, choice-malformed, none-malformed, all-steps}
+use Rattle.traces.proofs.Table.{Reading, table-refused, table-good, table-words, choice-malformed, none-malformed, all-steps}
 use borrow.Author.Needs.{needs}
 use Rattle.traces.proofs.trace.Statement.{statement}
 use Rattle.traces.proofs.trace.Tie as tie
@@ -20,8 +20,16 @@ use Rattle.traces.proofs.trace.Tie as tie
 to-end : (l : List ℕ) (n : ℕ) → take (length l - n) (drop n l) ≡ drop n l
 to-end l n = take-all (length l - n) (drop n l) (le-of-eq (length-drop n l))
 
+-- what is known once the table's text is read
+reading : (c : tie.After-read)
+    → Reading (c .before .before .before .before .before .before .before .before .before .args .input .now) (c .before .before .before .before .table-end .result .at) (c .before .before .before .before .table-end .result .lines) (c .read .result) (c .read .last .1 .0)
+reading c =
+    let e = c .before .before .before .before .table-end .ensures in
+    let b = c .before .before .before .blank-table in
+    record { short = c .before .before .before .before .before .if2 .left; place = e .0; counted = e .1; blank = b .result; blank-long = b .ensures; read = c .read .ensures }
+
 returns : tie.Need-returns
-returns c = let p = c .before .before .before .args in too-short (p .input .now) (p .out .now) (c .if1 .taken)
+returns c = too-short _ _ (c .if1 .taken)
 
 finish-requires : tie.Need-finish-requires
 finish-requires c κs = search needs
@@ -30,11 +38,7 @@ same-length : tie.Need-same-length
 same-length c = search needs
 
 returns-2 : tie.Need-returns-2
-returns-2 c =
-    let p = c .before .before .before .before .before .before .before .before .args in
-    let f = c .before .before .finish in
-    one-line (p .input .now) (p .out .now) (f .result .reply) (f .result .length) (f .last .0) (c .before .before .before .before .before .if1 .left) 17 0
-    (trace-long (p .input .now) (c .before .before .before .before .if2 .taken)) (f .ensures)
+returns-2 c = one-line _ _ _ _ _ (c .before .before .before .before .before .if1 .left) 17 0 (trace-long _ (c .before .before .before .before .if2 .taken)) (c .before .before .finish .ensures)
 
 table-end-requires : tie.Need-table-end-requires
 table-end-requires c κs = search needs
@@ -58,17 +62,7 @@ same-length-2 : tie.Need-same-length-2
 same-length-2 c = search needs
 
 returns-3 : tie.Need-returns-3
-returns-3 c =
-    let p = c .before .before .before .before .before .before .before .before .before .before .before .before .before .before .before .before .args in
-    let input = p .input .now in
-    let long = c .before .before .before .before .before .before .before .before .before .before .before .before .before .if1 .left in
-    let short = c .before .before .before .before .before .before .before .before .before .before .before .before .if2 .left in
-    let end = c .before .before .before .before .before .before .before .before .before .before .before .table-end in
-    let blank = c .before .before .before .before .before .before .before .before .before .before .blank-table in
-    let q = c .before .before .before .before .before .before .before .read in
-    let f = c .before .before .finish2 in
-    one-line input (p .out .now) (f .result .reply) (f .result .length) (f .last .0) long (q .result .reply) (q .result .line)
-    (table-refused input short (end .result .at) (end .ensures .0) (blank .result) (blank .ensures) (q .result) (q .last .1 .0) (q .ensures) (c .before .before .before .before .if3 .taken)) (f .ensures)
+returns-3 c = one-line _ _ _ _ _ (c .before .before .before .before .before .before .before .before .before .before .before .before .before .if1 .left) _ _ (table-refused (reading (c .before .before .before .before .before .before .before)) (c .before .before .before .before .if3 .taken)) (c .before .before .finish2 .ensures)
 
 add-first-bad-choice : tie.Need-add-first-bad-choice
 add-first-bad-choice c = search needs
@@ -84,17 +78,9 @@ same-length-3 c = search needs
 
 returns-4 : tie.Need-returns-4
 returns-4 c =
-    let p = c .before .before .before .before .before .before .before .before .before .before .before .before .before .before .before .before .before .before .before .args in
-    let input = p .input .now in
-    let long = c .before .before .before .before .before .before .before .before .before .before .before .before .before .before .before .before .if1 .left in
-    let short = c .before .before .before .before .before .before .before .before .before .before .before .before .before .before .before .if2 .left in
-    let end = c .before .before .before .before .before .before .before .before .before .before .before .before .before .before .table-end in
-    let blank = c .before .before .before .before .before .before .before .before .before .before .before .before .before .blank-table in
-    let q = c .before .before .before .before .before .before .before .before .before .before .read in
-    let f = c .before .before .finish3 in
-    let b = c .before .before .before .before .before .first-bad-choice in
-    one-line input (p .out .now) (f .result .reply) (f .result .length) (f .last .0) long 2 (b .result)
-    (choice-malformed input short (end .result .at) (end .ensures .0) (blank .result) (blank .ensures) (q .result) (q .last .1 .0) (q .ensures) (c .before .before .before .before .before .before .before .if3 .left) (end .result .lines) (b .result) (end .ensures .1) (b .ensures) (c .before .before .before .before .if4 .taken)) (f .ensures)
+    one-line _ _ _ _ _ (c .before .before .before .before .before .before .before .before .before .before .before .before .before .before .before .before .if1 .left) _ _
+    (choice-malformed (reading (c .before .before .before .before .before .before .before .before .before .before)) (c .before .before .before .before .before .before .before .if3 .left) (c .before .before .before .before .before .first-bad-choice .ensures) (c .before .before .before .before .if4 .taken))
+    (c .before .before .finish3 .ensures)
 
 sub-trace-steps : tie.Need-sub-trace-steps
 sub-trace-steps c = search needs
@@ -110,20 +96,12 @@ slice-aggregate-trace-steps c = search needs
 
 trace-steps-requires : tie.Need-trace-steps-requires
 trace-steps-requires c κs =
-    let p = c .before .before .before .before .before .before .before .before .before .before .before .before .before .before .before .before .before .before .args in
-    let input = p .input .now in
-    let long = c .before .before .before .before .before .before .before .before .before .before .before .before .before .before .before .if1 .left in
-    let short = c .before .before .before .before .before .before .before .before .before .before .before .before .before .before .if2 .left in
-    let end = c .before .before .before .before .before .before .before .before .before .before .before .before .before .table-end in
-    let blank = c .before .before .before .before .before .before .before .before .before .before .before .before .blank-table in
-    let q = c .before .before .before .before .before .before .before .before .before .read in
-    let b = c .before .before .before .before .first-bad-choice in
+    let r = reading (c .before .before .before .before .before .before .before .before .before) in
     let z = c .before .before .before .before .before .before .if3 .left in (
-      table-words input short (end .result .at) (end .ensures .0) (blank .result) (blank .ensures) (q .result) (q .last .1 .0) (q .ensures) z,
-      table-good input short (end .result .at) (end .ensures .0) (blank .result) (blank .ensures) (q .result) (q .last .1 .0) (q .ensures) z,
-      ap (λ (l : List ℕ). badChoice 1 (lines l)) (to-end input (end .result .at))
-          ∙ none-malformed input short (end .result .at) (end .ensures .0) (blank .result) (blank .ensures) (q .result) (q .last .1 .0) (q .ensures) z (end .result .lines) (b .result) (end .ensures .1) (b .ensures) (c .before .before .before .if4 .left),
-      long,
+      table-words r z,
+      table-good r z,
+      ap (λ (l : List ℕ). badChoice 1 (lines l)) (to-end (c .before .before .before .before .before .before .before .before .before .before .before .before .before .before .before .before .before .before .args .input .now) (c .before .before .before .before .before .before .before .before .before .before .before .before .before .table-end .result .at)) ∙ none-malformed r z (c .before .before .before .before .first-bad-choice .ensures) (c .before .before .before .if4 .left),
+      c .before .before .before .before .before .before .before .before .before .before .before .before .before .before .before .if1 .left,
     )
 
 same-length-4 : tie.Need-same-length-4
@@ -131,21 +109,11 @@ same-length-4 c = search needs
 
 returns-5 : tie.Need-returns-5
 returns-5 c =
-    let p = c .before .before .before .before .before .before .before .before .before .before .before .before .before .before .before .before .before .before .before .before .before .args in
-    let input = p .input .now in
-    let long = c .before .before .before .before .before .before .before .before .before .before .before .before .before .before .before .before .before .before .if1 .left in
-    let short = c .before .before .before .before .before .before .before .before .before .before .before .before .before .before .before .before .before .if2 .left in
-    let end = c .before .before .before .before .before .before .before .before .before .before .before .before .before .before .before .before .table-end in
-    let blank = c .before .before .before .before .before .before .before .before .before .before .before .before .before .before .before .blank-table in
-    let q = c .before .before .before .before .before .before .before .before .before .before .before .before .read in
-    let f = c .before .before .trace-steps in
-    let b = c .before .before .before .before .before .before .before .first-bad-choice in
-    let tb = q .last .1 .0 in
-    let cs = take (length input - end .result .at) (drop (end .result .at) input) in
-    done input (p .out .now) (f .result .reply) (f .result .length) (f .last .1 .1 .0) long (traceFrom tb (startWords tb) 0 (choicesIn (lines cs)))
-    (all-steps input short (end .result .at) (end .ensures .0) (blank .result) (blank .ensures) (q .result) (q .last .1 .0) (q .ensures) (c .before .before .before .before .before .before .before .before .before .if3 .left) (end .result .lines) (b .result) (end .ensures .1) (b .ensures) (c .before .before .before .before .before .before .if4 .left)
-    ∙ ap (λ (l : List ℕ). traceFrom tb (startWords tb) 0 (choicesIn (lines l))) (sym (to-end input (end .result .at))))
-    (f .ensures)
+    let tb = c .before .before .before .before .before .before .before .before .before .before .before .before .read .last .1 .0 in
+    done _ _ _ _ _ (c .before .before .before .before .before .before .before .before .before .before .before .before .before .before .before .before .before .before .if1 .left) _
+    (all-steps (reading (c .before .before .before .before .before .before .before .before .before .before .before .before)) (c .before .before .before .before .before .before .before .before .before .if3 .left) (c .before .before .before .before .before .before .before .first-bad-choice .ensures) (c .before .before .before .before .before .before .if4 .left)
+    ∙ ap (λ (l : List ℕ). traceFrom tb (startWords tb) 0 (choicesIn (lines l))) (sym (to-end (c .before .before .before .before .before .before .before .before .before .before .before .before .before .before .before .before .before .before .before .before .before .args .input .now) (c .before .before .before .before .before .before .before .before .before .before .before .before .before .before .before .before .table-end .result .at))))
+    (c .before .before .trace-steps .ensures)
 
 pub trace-spec : {M : Type 1} → statement M
 trace-spec =

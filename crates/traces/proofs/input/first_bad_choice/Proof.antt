@@ -10,7 +10,7 @@ use borrow.Author.Tests.{not-true, not-false}
 use Rattle.tables.specs.Lines.{lines}
 use Rattle.traces.specs.Input.{badChoice}
 use Rattle.traces.specs.Places.{choiceAt}
-use Rattle.traces.proofs.Choices.{choice-room, choice-digits, bad-next, bad-here, bad-none}
+use Rattle.traces.proofs.Choices.{choice-room, bad-next, bad-here, bad-none}
 use Rattle.traces.proofs.input.first_bad_choice.Statement.{statement}
 use Rattle.traces.proofs.input.first_bad_choice.Tie as tie
 
@@ -47,7 +47,7 @@ loop-again c =
     let l = c .before .before .before .loop in
     let s = c .before .before .before .before .before .args .input .now in
     let h : choiceAt s (l .p) ≡ true = sym (c .before .is-choice .ensures) ∙ not-false _ (c .if1 .left) in
-    let r = choice-room s (l .p) (choice-digits s (l .p) h) (l .inv .0) in
+    let r = choice-room s (l .p) h (l .inv .0) in
     (omega arith, omega arith, sym (bad-next s (l .p) h (l .n)) ∙ l .inv .2)
 
 returns-2 : tie.Need-returns-2 Inv-loop μ-loop

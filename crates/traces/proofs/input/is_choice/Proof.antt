@@ -2,11 +2,12 @@
 use native.Mathlib.Omega.{arith}
 use mathlib.Core.Path.{_≡_, sym, ap, _∙_}
 use mathlib.Core.Bool.{true, false}
-use Prim.Native.Nat.{ℕ, _+_}
+use Prim.Native.Nat.{ℕ}
 use lib.Dec.{eqb}
 use borrow.Author.Tests.{not-true, not-false}
 use Rattle.tables.specs.Heads.{digitsAt}
-use Rattle.traces.proofs.Choices.{choice-not, choice-if, choice-asks}
+use Rattle.traces.proofs.Choices.{choice-not, choice-if}
+use Rattle.tables.proofs.Heads.{field-asks}
 use borrow.Author.Needs.{needs}
 use Rattle.traces.proofs.input.is_choice.Statement.{statement}
 use Rattle.traces.proofs.input.is_choice.Tie as tie
@@ -24,8 +25,7 @@ field-requires : tie.Need-field-requires
 field-requires c κs =
     let g = c .before .before .before .args in
     let d : digitsAt 12 (g .text .now) (g .at) ≡ true = sym (c .before .is-digits-line .ensures) ∙ not-false _ (c .if1 .left) in
-    let e : g .at + 0 ≡ g .at = omega arith in
-    rw e at (choice-asks (g .text .now) (g .at) d 0 2 (omega arith) (search needs) (omega arith))
+    field-asks 12 (g .text .now) (g .at) d (g .at) 0 2 (omega arith) (search needs) (omega arith) (omega arith)
 
 returns-2 : tie.Need-returns-2
 returns-2 c =

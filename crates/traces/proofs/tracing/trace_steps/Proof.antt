@@ -1,13 +1,18 @@
 -- `trace_steps` meets its contract. The invariant is `Going`: what is left of the output, put where the step lines end, makes the whole. Assumes nothing.
 use native.Mathlib.Omega.{arith}
 use borrow.Author.Needs.{needs}
-use mathlib.Core.Path.{_∙_}
-use Prim.Native.Nat.{_-_}
-use lib.ListN.{length, set, length-set}
-use Rattle.tables.specs.Lines.{field}
-use Rattle.traces.proofs.Choices.{choice-asks, choice-digits, choice-room}
-use Rattle.traces.proofs.Chosen.{chosen-reply, chosen-agent, chosen-state}
+use mathlib.Core.Path.{_≡_, refl, _∙_}
+use Rattle.tables.specs.Heads.{digitsAt}
+use mathlib.Core.Bool.{true}
+use Prim.Native.Nat.{_+_, _-_, _≤_, _<_}
+use lib.ListN.{length, length-set}
+use Rattle.tables.proofs.Heads.{field-asks}
+use Rattle.executive.specs.Step.{choiceReply, accepted}
+use Rattle.executive.specs.Registers.{withRegs}
 use Rattle.executive.proofs.Choosing.{whole-length}
+use Rattle.traces.specs.Places.{choiceAt}
+use Rattle.traces.proofs.Choices.{choice-digits, choice-room}
+use Rattle.traces.proofs.Chosen.{chosen-reply, chosen-agent, chosen-state}
 use Rattle.traces.proofs.Going.{Going, is-choice, room, refused, one-more, on, none-left, all-written, low, begin}
 use Rattle.traces.proofs.tracing.trace_steps.Statement.{statement}
 use Rattle.traces.proofs.tracing.trace_steps.Tie as tie
@@ -17,6 +22,29 @@ Inv-loop choices table out₀ state₀ regs₀ n₀ at₀ end₀ out state regs 
 
 abbrev μ-loop : tie.MeasureT-loop
 μ-loop choices table out₀ state₀ regs₀ n₀ at₀ end₀ out state regs n at end = length choices - at
+
+-- in a turn: a choice line stands here, whole
+chosen-line : (c : tie.In-loop Inv-loop μ-loop) → choiceAt (c .before .before .before .before .before .before .before .before .before .before .before .args .choices .now) (c .before .loop .at) ≡ true
+chosen-line c = is-choice _ _ _ _ _ _ _ _ _ (c .before .loop .inv) (c .loop-test .taken)
+
+digits : (c : tie.In-loop Inv-loop μ-loop) → digitsAt 12 (c .before .before .before .before .before .before .before .before .before .before .before .args .choices .now) (c .before .loop .at) ≡ true
+digits c = choice-digits _ _ (chosen-line c)
+
+enough : (c : tie.In-loop Inv-loop μ-loop) → c .before .loop .at + 13 ≤ length (c .before .before .before .before .before .before .before .before .before .before .before .args .choices .now)
+enough c = choice-room _ _ (chosen-line c) (c .before .loop .inv .within)
+
+-- after the choice: its reply, and where it is accepted, that there is room for one line more and that its agent exists
+said : (c : tie.After-choose Inv-loop μ-loop)
+    → choiceReply (c .before .before .before .before .before .before .before .before .before .before .before .before .before .before .before .args .table .now) (withRegs (c .before .before .before .before .before .loop .state) (c .before .before .before .before .before .loop .regs)) (c .before .before .before .field .result) (c .before .before .field2 .result)
+    ≡ c .choose .result .reply
+said c = chosen-reply _ _ _ _ _ _ _ _ (c .choose .ensures)
+
+more : (c : tie.After-choose Inv-loop μ-loop) → c .choose .result .reply ≡ 0 → c .before .before .before .before .before .loop .n + 1 ≤ 512
+more c z = one-more _ _ _ _ _ _ _ _ _ (c .before .before .before .before .before .loop .inv) (c .before .before .before .before .loop-test .taken) _ _ (c .before .before .before .field .ensures) (c .before .before .field2 .ensures) (said c ∙ z)
+
+low-agent : (c : tie.After-choose Inv-loop μ-loop) → c .choose .result .reply ≡ 0 → c .before .before .before .field .result < 16
+low-agent c z =
+    low _ _ _ _ _ _ _ _ _ (c .before .before .before .before .before .loop .inv) (c .before .before .before .before .loop-test .taken) _ _ (c .before .before .before .field .ensures) (c .before .before .field2 .ensures) (said c ∙ z) (c .before .before .before .before .before .before .before .before .before .before .before .before .before .before .before .pre .1)
 
 blank-state-requires : tie.Need-blank-state-requires Inv-loop μ-loop
 blank-state-requires c κs = search needs
@@ -35,248 +63,98 @@ load-registers-requires c κs = search needs
 
 loop-holds : tie.Need-loop-holds Inv-loop μ-loop
 loop-holds c =
-    let p = c .before .before .before .before .before .before .before .before .before .args in
-    let tb = p .table .now in
-    let s = c .before .before .before .put-start in
-    begin tb (p .choices .now) (p .out .now) (s .last .1 .0) (c .load-registers .result) (c .before .before .before .before .before .before .before .before .before .pre .1) (c .before .before .before .before .before .before .before .before .before .pre .0) (c .before .before .before .before .before .before .before .before .before .pre .2) (s .ensures) (c .load-registers .ensures) (search needs)
+    let start = c .before .before .before .before .before .before .before .before .before in
+    begin _ _ _ _ _ (start .pre .1) (start .pre .0) (start .pre .2) (c .before .before .before .put-start .ensures) (c .load-registers .ensures) (search needs)
 
 add-field : tie.Need-add-field Inv-loop μ-loop
-add-field c =
-    let l = c .before .loop in
-    let p = c .before .before .before .before .before .before .before .before .before .before .before .args in
-    let cs = p .choices .now in
-    let tb = p .table .now in
-    let g = l .inv in
-    let r = choice-room cs (l .at) (choice-digits cs (l .at) (is-choice tb cs (p .out .now) (l .out) (l .state) (l .regs) (l .n) (l .at) (l .end) g (c .loop-test .taken))) (g .within) in
-    omega arith
+add-field c = let r = enough c in omega arith
 
 field-requires : tie.Need-field-requires Inv-loop μ-loop
-field-requires c κs =
-    let l = c .before .loop in
-    let p = c .before .before .before .before .before .before .before .before .before .before .before .args in
-    let cs = p .choices .now in
-    let tb = p .table .now in
-    let g = l .inv in
-    choice-asks cs (l .at) (choice-digits cs (l .at) (is-choice tb cs (p .out .now) (l .out) (l .state) (l .regs) (l .n) (l .at) (l .end) g (c .loop-test .taken))) 2 2 (omega arith) (g .within) (omega arith)
+field-requires c κs = field-asks 12 _ _ (digits c) _ 2 2 refl (c .before .loop .inv .within) (omega arith) (omega arith)
 
 add-field-2 : tie.Need-add-field-2 Inv-loop μ-loop
-add-field-2 c =
-    let l = c .before .before .loop in
-    let p = c .before .before .before .before .before .before .before .before .before .before .before .before .args in
-    let cs = p .choices .now in
-    let tb = p .table .now in
-    let g = l .inv in
-    let r = choice-room cs (l .at) (choice-digits cs (l .at) (is-choice tb cs (p .out .now) (l .out) (l .state) (l .regs) (l .n) (l .at) (l .end) g (c .before .loop-test .taken))) (g .within) in
-    omega arith
+add-field-2 c = let r = enough (c .before) in omega arith
 
 field-requires-2 : tie.Need-field-requires-2 Inv-loop μ-loop
-field-requires-2 c κs =
-    let l = c .before .before .loop in
-    let p = c .before .before .before .before .before .before .before .before .before .before .before .before .args in
-    let cs = p .choices .now in
-    let tb = p .table .now in
-    let g = l .inv in
-    choice-asks cs (l .at) (choice-digits cs (l .at) (is-choice tb cs (p .out .now) (l .out) (l .state) (l .regs) (l .n) (l .at) (l .end) g (c .before .loop-test .taken))) 4 8 (omega arith) (g .within) (omega arith)
+field-requires-2 c κs = field-asks 12 _ _ (digits (c .before)) _ 4 8 refl (c .before .before .loop .inv .within) (omega arith) (omega arith)
 
 slice-aggregate-choose : tie.Need-slice-aggregate-choose Inv-loop μ-loop
 slice-aggregate-choose c = search needs
 
 choose-requires : tie.Need-choose-requires Inv-loop μ-loop
-choose-requires c κs =
-    let l = c .before .before .before .before .loop in
-    let p = c .before .before .before .before .before .before .before .before .before .before .before .before .before .before .args in
-    let cs = p .choices .now in
-    let tb = p .table .now in
-    let g = l .inv in
-    (c .before .before .before .before .before .before .before .before .before .before .before .before .before .before .pre .0, g .state-long, c .before .before .before .before .before .before .before .before .before .before .before .before .before .before .pre .1)
+choose-requires c κs = (c .before .before .before .before .before .before .before .before .before .before .before .before .before .before .pre .0, c .before .before .before .before .loop .inv .state-long, c .before .before .before .before .before .before .before .before .before .before .before .before .before .before .pre .1)
 
 finish-requires : tie.Need-finish-requires Inv-loop μ-loop
-finish-requires c κs =
-    let l = c .before .before .before .before .before .before .before .before .before .loop in
-    let p = c .before .before .before .before .before .before .before .before .before .before .before .before .before .before .before .before .before .before .before .args in
-    let cs = p .choices .now in
-    let tb = p .table .now in
-    let g = l .inv in
-    room tb cs (p .out .now) (l .out) (l .state) (l .regs) (l .n) (l .at) (l .end) g (c .before .before .before .before .before .before .before .before .before .before .before .before .before .before .before .before .before .before .before .pre .3)
+finish-requires c κs = room _ _ _ _ _ _ _ _ _ (c .before .before .before .before .before .before .before .before .before .loop .inv) (c .before .before .before .before .before .before .before .before .before .before .before .before .before .before .before .before .before .before .before .pre .3)
 
 same-length : tie.Need-same-length Inv-loop μ-loop
-same-length c =
-    let l = c .before .before .before .before .before .before .before .before .before .before .before .before .loop in
-    let p = c .before .before .before .before .before .before .before .before .before .before .before .before .before .before .before .before .before .before .before .before .before .before .args in
-    let cs = p .choices .now in
-    let tb = p .table .now in
-    let g = l .inv in
-    c .before .before .finish .kept .0 ∙ g .out-long
+same-length c = c .before .before .finish .kept .0 ∙ c .before .before .before .before .before .before .before .before .before .before .before .before .loop .inv .out-long
 
 returns : tie.Need-returns Inv-loop μ-loop
 returns c =
-    let l = c .before .before .before .before .before .before .before .before .before .before .before .before .loop in
-    let p = c .before .before .before .before .before .before .before .before .before .before .before .before .before .before .before .before .before .before .before .before .before .before .args in
-    let cs = p .choices .now in
-    let tb = p .table .now in
-    let g = l .inv in
-    let ch = c .before .before .before .before .before .before .before .choose in
-    let a = c .before .before .before .before .before .before .before .before .before .before .field in
-    let t = c .before .before .before .before .before .before .before .before .before .field2 in
-    let h = c .before .before .before .before .before .before .before .before .before .before .before .loop-test .taken in
-    let e = chosen-reply tb (l .state) (l .regs) (a .result) (t .result) (ch .result .reply) (ch .result .agent) (ch .last .1 .0) (ch .ensures) in
-    let f = c .before .before .finish in
-    all-written tb cs (p .out .now) (l .out) (l .state) (l .regs) (l .n) (l .at) (l .end) g (f .result .reply) (f .result .length) (f .last .0) (ch .result .reply) (c .before .before .before .before .before .before .before .before .before .before .before .before .before .before .before .before .before .before .before .before .before .before .pre .3) (f .ensures)
-    (refused tb cs (p .out .now) (l .out) (l .state) (l .regs) (l .n) (l .at) (l .end) g h (a .result) (t .result) (a .ensures) (t .ensures) (ch .result .reply) (c .before .before .before .before .if1 .taken) e)
+    let d = c .before .before .before .before .before .before .before in
+    let g = c .before .before .before .before .before .before .before .before .before .before .before .before .loop .inv in
+    all-written _ _ _ _ _ _ _ _ _ g _ _ _ _ (c .before .before .before .before .before .before .before .before .before .before .before .before .before .before .before .before .before .before .before .before .before .before .pre .3) (c .before .before .finish .ensures)
+    (refused _ _ _ _ _ _ _ _ _ g (c .before .before .before .before .before .before .before .before .before .before .before .loop-test .taken) _ _ (c .before .before .before .before .before .before .before .before .before .before .field .ensures) (c .before .before .before .before .before .before .before .before .before .field2 .ensures) _ (c .before .before .before .before .if1 .taken) (said d))
 
 cast-regs : tie.Need-cast-regs Inv-loop μ-loop
 cast-regs c = search needs
 
 mul-regs : tie.Need-mul-regs Inv-loop μ-loop
-mul-regs c =
-    let l = c .before .before .before .before .before .before .before .before .before .before .loop in
-    let p = c .before .before .before .before .before .before .before .before .before .before .before .before .before .before .before .before .before .before .before .before .args in
-    let cs = p .choices .now in
-    let tb = p .table .now in
-    let g = l .inv in
-    let ch = c .before .before .before .before .before .choose in
-    let a = c .before .before .before .before .before .before .before .before .field in
-    let t = c .before .before .before .before .before .before .before .field2 in
-    let h = c .before .before .before .before .before .before .before .before .before .loop-test .taken in
-    let e = chosen-reply tb (l .state) (l .regs) (a .result) (t .result) (ch .result .reply) (ch .result .agent) (ch .last .1 .0) (ch .ensures) in
-    let m = low tb cs (p .out .now) (l .out) (l .state) (l .regs) (l .n) (l .at) (l .end) g h (a .result) (t .result) (a .ensures) (t .ensures) (e ∙ c .before .before .if1 .left) (c .before .before .before .before .before .before .before .before .before .before .before .before .before .before .before .before .before .before .before .before .pre .1) in
-    omega arith
+mul-regs c = let m = low-agent (c .before .before .before .before .before) (c .before .before .if1 .left) in omega arith
 
 array-set-from-regs : tie.Need-array-set-from-regs Inv-loop μ-loop
-array-set-from-regs c =
-    let l = c .before .before .before .before .before .before .before .before .before .before .loop in
-    let p = c .before .before .before .before .before .before .before .before .before .before .before .before .before .before .before .before .before .before .before .before .args in
-    let cs = p .choices .now in
-    let tb = p .table .now in
-    let g = l .inv in
-    let ch = c .before .before .before .before .before .choose in
-    let a = c .before .before .before .before .before .before .before .before .field in
-    let t = c .before .before .before .before .before .before .before .field2 in
-    let h = c .before .before .before .before .before .before .before .before .before .loop-test .taken in
-    let e = chosen-reply tb (l .state) (l .regs) (a .result) (t .result) (ch .result .reply) (ch .result .agent) (ch .last .1 .0) (ch .ensures) in
-    low tb cs (p .out .now) (l .out) (l .state) (l .regs) (l .n) (l .at) (l .end) g h (a .result) (t .result) (a .ensures) (t .ensures) (e ∙ c .before .before .if1 .left) (c .before .before .before .before .before .before .before .before .before .before .before .before .before .before .before .before .before .before .before .before .pre .1)
+array-set-from-regs c = low-agent (c .before .before .before .before .before) (c .before .before .if1 .left)
 
 put-step-line-requires : tie.Need-put-step-line-requires Inv-loop μ-loop
 put-step-line-requires c κs =
-    let l = c .before .before .before .before .before .before .before .before .before .before .before .loop in
-    let p = c .before .before .before .before .before .before .before .before .before .before .before .before .before .before .before .before .before .before .before .before .before .args in
-    let cs = p .choices .now in
-    let tb = p .table .now in
-    let g = l .inv in
-    let ch = c .before .before .before .before .before .before .choose in
-    let a = c .before .before .before .before .before .before .before .before .before .field in
-    let t = c .before .before .before .before .before .before .before .before .field2 in
-    let h = c .before .before .before .before .before .before .before .before .before .before .loop-test .taken in
-    let e = chosen-reply tb (l .state) (l .regs) (a .result) (t .result) (ch .result .reply) (ch .result .agent) (ch .last .1 .0) (ch .ensures) in
-    let m = one-more tb cs (p .out .now) (l .out) (l .state) (l .regs) (l .n) (l .at) (l .end) g h (a .result) (t .result) (a .ensures) (t .ensures) (e ∙ c .before .before .before .if1 .left) in
+    let m = more (c .before .before .before .before .before .before) (c .before .before .before .if1 .left) in
+    let g = c .before .before .before .before .before .before .before .before .before .before .before .loop .inv in
     let k = g .ends in
     let o = g .out-long in
     let w = c .before .before .before .before .before .before .before .before .before .before .before .before .before .before .before .before .before .before .before .before .before .pre .3 in
     omega arith
 
 add-n : tie.Need-add-n Inv-loop μ-loop
-add-n c =
-    let l = c .before .before .before .before .before .before .before .before .before .before .before .before .before .before .loop in
-    let p = c .before .before .before .before .before .before .before .before .before .before .before .before .before .before .before .before .before .before .before .before .before .before .before .before .args in
-    let cs = p .choices .now in
-    let tb = p .table .now in
-    let g = l .inv in
-    let ch = c .before .before .before .before .before .before .before .before .before .choose in
-    let a = c .before .before .before .before .before .before .before .before .before .before .before .before .field in
-    let t = c .before .before .before .before .before .before .before .before .before .before .before .field2 in
-    let h = c .before .before .before .before .before .before .before .before .before .before .before .before .before .loop-test .taken in
-    let e = chosen-reply tb (l .state) (l .regs) (a .result) (t .result) (ch .result .reply) (ch .result .agent) (ch .last .1 .0) (ch .ensures) in
-    let m = one-more tb cs (p .out .now) (l .out) (l .state) (l .regs) (l .n) (l .at) (l .end) g h (a .result) (t .result) (a .ensures) (t .ensures) (e ∙ c .before .before .before .before .before .before .if1 .left) in
-    omega arith
+add-n c = let m = more (c .before .before .before .before .before .before .before .before .before) (c .before .before .before .before .before .before .if1 .left) in omega arith
 
 add-at : tie.Need-add-at Inv-loop μ-loop
 add-at c =
-    let l = c .before .before .before .before .before .before .before .before .before .before .before .before .before .before .loop in
-    let p = c .before .before .before .before .before .before .before .before .before .before .before .before .before .before .before .before .before .before .before .before .before .before .before .before .args in
-    let cs = p .choices .now in
-    let tb = p .table .now in
-    let g = l .inv in
-    let r = choice-room cs (l .at) (choice-digits cs (l .at) (is-choice tb cs (p .out .now) (l .out) (l .state) (l .regs) (l .n) (l .at) (l .end) g (c .before .before .before .before .before .before .before .before .before .before .before .before .before .loop-test .taken))) (g .within) in
+    let r = enough (c .before .before .before .before .before .before .before .before .before .before .before .before .before) in
     let z = c .before .before .before .before .before .before .before .before .before .before .before .before .before .before .before .before .before .before .before .before .before .before .before .before .good .0 .0 in
     omega arith
 
 add-end : tie.Need-add-end Inv-loop μ-loop
 add-end c =
-    let l = c .before .before .before .before .before .before .before .before .before .before .before .before .before .before .loop in
-    let p = c .before .before .before .before .before .before .before .before .before .before .before .before .before .before .before .before .before .before .before .before .before .before .before .before .args in
-    let cs = p .choices .now in
-    let tb = p .table .now in
-    let g = l .inv in
-    let ch = c .before .before .before .before .before .before .before .before .before .choose in
-    let a = c .before .before .before .before .before .before .before .before .before .before .before .before .field in
-    let t = c .before .before .before .before .before .before .before .before .before .before .before .field2 in
-    let h = c .before .before .before .before .before .before .before .before .before .before .before .before .before .loop-test .taken in
-    let e = chosen-reply tb (l .state) (l .regs) (a .result) (t .result) (ch .result .reply) (ch .result .agent) (ch .last .1 .0) (ch .ensures) in
-    let m = one-more tb cs (p .out .now) (l .out) (l .state) (l .regs) (l .n) (l .at) (l .end) g h (a .result) (t .result) (a .ensures) (t .ensures) (e ∙ c .before .before .before .before .before .before .if1 .left) in
-    let k = g .ends in
+    let m = more (c .before .before .before .before .before .before .before .before .before) (c .before .before .before .before .before .before .if1 .left) in
+    let k = c .before .before .before .before .before .before .before .before .before .before .before .before .before .before .loop .inv .ends in
     omega arith
 
 loop-less : tie.Need-loop-less Inv-loop μ-loop
-loop-less c =
-    let l = c .before .before .before .before .before .before .before .before .before .before .before .before .before .before .loop in
-    let p = c .before .before .before .before .before .before .before .before .before .before .before .before .before .before .before .before .before .before .before .before .before .before .before .before .args in
-    let cs = p .choices .now in
-    let tb = p .table .now in
-    let g = l .inv in
-    let r = choice-room cs (l .at) (choice-digits cs (l .at) (is-choice tb cs (p .out .now) (l .out) (l .state) (l .regs) (l .n) (l .at) (l .end) g (c .before .before .before .before .before .before .before .before .before .before .before .before .before .loop-test .taken))) (g .within) in
-    omega arith
+loop-less c = let r = enough (c .before .before .before .before .before .before .before .before .before .before .before .before .before) in omega arith
 
 loop-again : tie.Need-loop-again Inv-loop μ-loop
 loop-again c =
     let l = c .before .before .before .before .before .before .before .before .before .before .before .before .before .before .loop in
-    let p = c .before .before .before .before .before .before .before .before .before .before .before .before .before .before .before .before .before .before .before .before .before .before .before .before .args in
-    let cs = p .choices .now in
-    let tb = p .table .now in
     let g = l .inv in
-    let ch = c .before .before .before .before .before .before .before .before .before .choose in
-    let a = c .before .before .before .before .before .before .before .before .before .before .before .before .field in
-    let t = c .before .before .before .before .before .before .before .before .before .before .before .field2 in
-    let h = c .before .before .before .before .before .before .before .before .before .before .before .before .before .loop-test .taken in
-    let e = chosen-reply tb (l .state) (l .regs) (a .result) (t .result) (ch .result .reply) (ch .result .agent) (ch .last .1 .0) (ch .ensures) in
+    let d = c .before .before .before .before .before .before .before .before .before in
     let z = c .before .before .before .before .before .before .if1 .left in
-    let q = c .before .before .put-step-line in
     let good = c .before .before .before .before .before .before .before .before .before .before .before .before .before .before .before .before .before .before .before .before .before .before .before .before .pre .1 in
-    on tb cs (p .out .now) (l .out) (l .state) (l .regs) (l .n) (l .at) (l .end) g h (a .result) (t .result) (a .ensures) (t .ensures) (e ∙ z) (ch .result .agent) (q .last .0) (ch .last .1 .0) (set (l .regs) (a .result) (ch .result .agent .regs)) good
-    (whole-length (l .state) (l .regs) (g .state-long))
-    (chosen-agent tb (l .state) (l .regs) (a .result) (t .result) (ch .result .reply) (ch .result .agent) (ch .last .1 .0) (ch .ensures) z)
-    (q .ensures)
-    (ch .kept .1 .0 ∙ g .state-long)
-    (length-set (l .regs) _ _ ∙ g .regs-wide)
-    (chosen-state tb (l .state) (l .regs) (a .result) (t .result) (ch .result .reply) (ch .result .agent) (ch .last .1 .0) (ch .ensures) z (g .state-long) (g .regs-wide) (low tb cs (p .out .now) (l .out) (l .state) (l .regs) (l .n) (l .at) (l .end) g h (a .result) (t .result) (a .ensures) (t .ensures) (e ∙ z) good))
+    on _ _ _ _ _ _ _ _ _ g (c .before .before .before .before .before .before .before .before .before .before .before .before .before .loop-test .taken) _ _ (c .before .before .before .before .before .before .before .before .before .before .before .before .field .ensures) (c .before .before .before .before .before .before .before .before .before .before .before .field2 .ensures) (said d ∙ z) _ _ _ _ good
+    (whole-length (l .state) (l .regs) (g .state-long)) (chosen-agent _ _ _ _ _ _ _ _ (d .choose .ensures) z) (c .before .before .put-step-line .ensures)
+    (d .choose .kept .1 .0 ∙ g .state-long) (length-set (l .regs) _ _ ∙ g .regs-wide)
+    (chosen-state _ _ _ _ _ _ _ _ (d .choose .ensures) z (g .state-long) (g .regs-wide) (low-agent d z))
 
 finish-requires-2 : tie.Need-finish-requires-2 Inv-loop μ-loop
-finish-requires-2 c κs =
-    let l = c .before .before .loop in
-    let p = c .before .before .before .before .before .before .before .before .before .before .before .before .args in
-    let cs = p .choices .now in
-    let tb = p .table .now in
-    let g = l .inv in
-    room tb cs (p .out .now) (l .out) (l .state) (l .regs) (l .n) (l .at) (l .end) g (c .before .before .before .before .before .before .before .before .before .before .before .before .pre .3)
+finish-requires-2 c κs = room _ _ _ _ _ _ _ _ _ (c .before .before .loop .inv) (c .before .before .before .before .before .before .before .before .before .before .before .before .pre .3)
 
 same-length-2 : tie.Need-same-length-2 Inv-loop μ-loop
-same-length-2 c =
-    let l = c .before .before .before .before .before .loop in
-    let p = c .before .before .before .before .before .before .before .before .before .before .before .before .before .before .before .args in
-    let cs = p .choices .now in
-    let tb = p .table .now in
-    let g = l .inv in
-    c .before .before .finish2 .kept .0 ∙ g .out-long
+same-length-2 c = c .before .before .finish2 .kept .0 ∙ c .before .before .before .before .before .loop .inv .out-long
 
 returns-2 : tie.Need-returns-2 Inv-loop μ-loop
 returns-2 c =
-    let l = c .before .before .before .before .before .loop in
-    let p = c .before .before .before .before .before .before .before .before .before .before .before .before .before .before .before .args in
-    let cs = p .choices .now in
-    let tb = p .table .now in
-    let g = l .inv in
-    let f = c .before .before .finish2 in
-    all-written tb cs (p .out .now) (l .out) (l .state) (l .regs) (l .n) (l .at) (l .end) g (f .result .reply) (f .result .length) (f .last .0) 0 (c .before .before .before .before .before .before .before .before .before .before .before .before .before .before .before .pre .3) (f .ensures)
-    (none-left tb cs (p .out .now) (l .out) (l .state) (l .regs) (l .n) (l .at) (l .end) g (c .before .before .before .before .loop-test .left))
+    let g = c .before .before .before .before .before .loop .inv in
+    all-written _ _ _ _ _ _ _ _ _ g _ _ _ _ (c .before .before .before .before .before .before .before .before .before .before .before .before .before .before .before .pre .3) (c .before .before .finish2 .ensures) (none-left _ _ _ _ _ _ _ _ _ g (c .before .before .before .before .loop-test .left))
 
 pub trace-steps-spec : {M : Type 1} → statement M
 trace-steps-spec =
