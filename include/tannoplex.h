@@ -73,6 +73,8 @@ extern "C" {
 #define TANNOPLEX_ROWS 32
 #define TANNOPLEX_REGISTERS 4
 #define TANNOPLEX_LAST_TIME 1000000
+#define TANNOPLEX_TRACE_INPUT_BYTES 65536  /* the longest input of a trace */
+#define TANNOPLEX_TRACE_OUTPUT_BYTES 24073 /* the longest output: 512 lines of 47 bytes, one of 9 */
 
 /* Where the parts of a table and of a state begin. */
 #define TANNOPLEX_TABLE_ROW_COUNTS 1
@@ -86,7 +88,7 @@ extern "C" {
 
 /* Replies. */
 #define TANNOPLEX_ACCEPTED 0          /* accepted */
-#define TANNOPLEX_BUFFER_TOO_SHORT 1  /* table or state buffer too short */
+#define TANNOPLEX_BUFFER_TOO_SHORT 1  /* table, state or output buffer too short */
 #define TANNOPLEX_MALFORMED_LINE 2    /* a line is malformed */
 #define TANNOPLEX_LINE_OUT_OF_PLACE 3 /* a line out of its place, or too many agents or rows */
 #define TANNOPLEX_BAD_FIELD 4         /* unknown op, register above 3, n above 31, or an unused
@@ -104,8 +106,7 @@ extern "C" {
                                          agent is unfinished; cannot be met */
 #define TANNOPLEX_TIME_ABOVE_LATE 15  /* time above some unfinished agent's late */
 #define TANNOPLEX_ODD_CHOICES 16      /* the list of choices has an odd number of words */
-#define TANNOPLEX_INPUT_TOO_LONG 17   /* the trace program's input is above 65,536 bytes; no call
-                                         here gives it */
+#define TANNOPLEX_INPUT_TOO_LONG 17   /* a trace's input is above 65,536 bytes */
 
 /* What tannoplex_read answers: a reply, and the line it is about, counted from 1; 0 with
    TANNOPLEX_ACCEPTED and TANNOPLEX_BUFFER_TOO_SHORT. */
@@ -113,6 +114,10 @@ typedef struct { uint32_t reply, line; } tannoplex_told;
 
 /* What tannoplex_run answers: a reply, and how many steps were accepted before it. */
 typedef struct { uint32_t reply, count; } tannoplex_ran;
+
+/* What tannoplex_trace answers: the reply number in the output's last line, and how many bytes were
+   written; 1 and 0 where the output buffer is too short. */
+typedef struct { uint32_t reply; size_t length; } tannoplex_traced;
 
 /*
  * Reads the text of a table. Text is lines of upper-case hexadecimal, numbers high byte first, each
@@ -152,6 +157,17 @@ uint32_t tannoplex_step(const uint32_t *table, size_t table_len, uint32_t *state
  */
 tannoplex_ran tannoplex_run(const uint32_t *table, size_t table_len, uint32_t *state,
                             size_t state_len, const uint32_t *choices, size_t choices_len);
+
+/*
+ * A trace: what the trace program does. The input is the text of a table and then lines of `02`,
+ * agent, time (4 bytes), one for each choice. Written are, for each accepted step, a line of `03`,
+ * agent, new position, time (4 bytes), four registers (4 bytes each); then `FE`, the reply number and
+ * 2 bytes: the line number for 2 to 7, zero for 17, else the count of accepted steps. Bytes of the
+ * buffer after the text stay as they were. A buffer shorter than TANNOPLEX_TRACE_OUTPUT_BYTES is
+ * refused with 1 before all else.
+ */
+tannoplex_traced tannoplex_trace(const uint8_t *input, size_t input_len, uint8_t *out,
+                                 size_t out_len);
 
 #ifdef __cplusplus
 }

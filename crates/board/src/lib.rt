@@ -2,8 +2,10 @@
 // A slice passes as pointer and length.
 use executive::Ran;
 use tables::Told;
+use traces::TraceReply;
 ghost use Rattle.tables.specs.Calls as Tables;
 ghost use Rattle.executive.specs.Calls as Executive;
+ghost use Rattle.traces.specs.Calls as Traces;
 
 #[no_mangle]
 pub extern "C" fn tannoplex_read(text: &[u8], table: &mut [u32]) -> Told
@@ -38,4 +40,11 @@ pub extern "C" fn tannoplex_run(table: &[u32], state: &mut [u32], choices: &[u32
     ensures { λ r. ⌜ Executive.Ran (now (table .entry)) (now (state .entry)) (now (choices .entry)) (r .reply) (r .count) (now (state .exit)) ⌝ }
 {
     executive::calls::run(table, state, choices)
+}
+
+#[no_mangle]
+pub extern "C" fn tannoplex_trace(input: &[u8], out: &mut [u8]) -> TraceReply
+    ensures { λ r. ⌜ Traces.Wrote (now (input .entry)) (now (out .entry)) (r .reply) (r .length) (now (out .exit)) ⌝ }
+{
+    traces::trace(input, out)
 }

@@ -24,6 +24,7 @@ const LONGEST_OUTPUT: usize = 24073;
 const LONGEST_INPUT: usize = 65536;
 
 // The reply of a trace, and the length of its text.
+#[repr(C)]
 pub struct TraceReply {
     pub reply: u32,
     pub length: usize,

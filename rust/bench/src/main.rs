@@ -48,8 +48,6 @@ fn print_table() {
     for (name, between) in between {
         println!("- {name}: {between}.");
     }
-    println!();
-    println!("The trace program's work is not measured: the archive does not export it.");
 }
 
 /// A time in nanoseconds as microseconds; a dash where there is none.

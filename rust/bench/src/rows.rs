@@ -197,15 +197,43 @@ fn run_3_agents() -> Row {
     run("3 agents of 32 rows, every second a RECV", &table)
 }
 
+/// The trace of a whole run, from its input to its output.
+fn trace() -> Row {
+    let table = inputs::table(AGENTS, ROWS, inputs::NO_RECVS);
+    let mut input = cases::texts::text(&table);
+    for [agent, time] in inputs::choices(&table) {
+        input.extend_from_slice(format!("02{agent:02X}{time:08X}\n").as_bytes());
+    }
+    let (proved, quick) = (input.clone(), input.clone());
+    let mut proved_out = vec![0; tannoplex::TRACE_OUTPUT_BYTES];
+    let mut quick_out = Box::new([0; quick::OUTPUT_BYTES]);
+    let length = quick::trace(&input, &mut quick_out);
+    Row {
+        what: format!("the table with no RECV and its choices, {} bytes to {length}", input.len()),
+        between: "nothing; each call writes the same output over the last",
+        calls: CALLS,
+        proved: again(move || {
+            let traced = tannoplex::trace(black_box(&proved), &mut proved_out);
+            assert!(traced.reply.is_accepted() && traced.length == length);
+        }),
+        quick: again(move || assert_eq!(quick::trace(black_box(&quick), &mut quick_out), length)),
+        narrow: None,
+        sum: again(move || {
+            black_box(sum_of_bytes(black_box(&input)));
+        }),
+    }
+}
+
 /// A row's name, and how it is made.
 pub type Named = (&'static str, fn() -> Row);
 
 /// All rows of the table.
-pub const ALL: [Named; 6] = [
+pub const ALL: [Named; 7] = [
     ("check", check),
     ("read", read),
     ("step", step),
     ("run, many RECVs", run_many_recvs),
     ("run, no RECVs", run_no_recvs),
     ("run, 3 agents", run_3_agents),
+    ("trace", trace),
 ];

@@ -16,6 +16,14 @@ pub struct Ran {
     pub count: u32,
 }
 
+/// `tannoplex_traced`.
+#[repr(C)]
+#[derive(Clone, Copy)]
+pub struct Traced {
+    pub reply: u32,
+    pub length: usize,
+}
+
 extern "C" {
     pub fn tannoplex_read(
         text: *const u8,
@@ -50,6 +58,13 @@ extern "C" {
         choices: *const u32,
         choices_len: usize,
     ) -> Ran;
+
+    pub fn tannoplex_trace(
+        input: *const u8,
+        input_len: usize,
+        out: *mut u8,
+        out_len: usize,
+    ) -> Traced;
 }
 
 #[cfg(test)]
@@ -84,6 +99,8 @@ mod tests {
 
             let ran = tannoplex_run(null(), 0, null_mut(), 0, null(), 0);
             assert_eq!((ran.reply, ran.count), (1, 0));
+            let traced = tannoplex_trace(null(), 0, null_mut(), 0);
+            assert_eq!((traced.reply, traced.length), (1, 0));
             let state = state.as_mut_ptr();
             let ran = tannoplex_run(table.as_ptr(), words, state, state_words, null(), 0);
             assert_eq!((ran.reply, ran.count), (0, 0));

@@ -45,6 +45,8 @@ pub const AGENTS: usize = 16;
 pub const ROWS: usize = 32;
 /// Registers of an agent.
 pub const REGISTERS: usize = 4;
+/// Bytes of the longest output of a [`trace`].
+pub const TRACE_OUTPUT_BYTES: usize = 24_073;
 
 /// What [`read`] answers.
 #[derive(Clone, Copy, Debug, PartialEq, Eq)]
@@ -65,6 +67,16 @@ pub struct Ran {
     pub reply: Reply,
     /// How many steps were accepted before it.
     pub count: u32,
+}
+
+/// What [`trace`] answers.
+#[derive(Clone, Copy, Debug, PartialEq, Eq)]
+#[must_use]
+pub struct Traced {
+    /// The reply in the output's last line, or [`Reply::BufferTooShort`].
+    pub reply: Reply,
+    /// How many bytes were written.
+    pub length: usize,
 }
 
 /// Reads the text of a table into `table`.
@@ -124,6 +136,16 @@ pub fn run(table: &[u32], state: &mut [u32], choices: &[u32]) -> Ran {
         )
     };
     Ran { reply: Reply::of(ran.reply), count: ran.count }
+}
+
+/// Traces an input, a table's text and then choice lines, into `out`, which has at least
+/// [`TRACE_OUTPUT_BYTES`]; bytes after the text stay as they were.
+pub fn trace(input: &[u8], out: &mut [u8]) -> Traced {
+    // SAFETY: as in `read`.
+    let traced = unsafe {
+        archive::tannoplex_trace(input.as_ptr(), input.len(), out.as_mut_ptr(), out.len())
+    };
+    Traced { reply: Reply::of(traced.reply), length: traced.length }
 }
 
 /// The clock of a state.

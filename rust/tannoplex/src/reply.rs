@@ -41,7 +41,7 @@ pub enum Reply {
     TimeAboveLate = 15,
     /// 16: the list of choices has an odd number of words.
     OddChoices = 16,
-    /// 17: the trace program's input is above 65,536 bytes. No call of this crate gives it.
+    /// 17: the input of a trace is above 65,536 bytes.
     InputTooLong = 17,
 }
 
