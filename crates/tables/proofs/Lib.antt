@@ -14,6 +14,7 @@ pub mod Accepted
 pub mod RowsRead
 pub mod Loads
 pub mod Outcomes
+pub mod Sound
 pub mod Stores
 pub mod Growing
 pub mod ReadGood

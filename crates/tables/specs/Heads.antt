@@ -1,5 +1,5 @@
 -- What stands at a place of a text: the end line, a line of digits, a frame. Assumes nothing.
-use mathlib.Core.Bool.{Bool}
+use mathlib.Core.Bool.{Bool, true, false}
 use mathlib.Core.List.{List, [], _∷_}
 use Prim.Native.Nat.{ℕ, _+_}
 use lib.ListN.{take, drop}
@@ -31,3 +31,11 @@ headLine (malformed ∷ fs) = Malformed
 -- the line that begins at place p
 unfoldable pub lineAt : List ℕ → ℕ → Line
 lineAt text p = headLine (framesOf (drop p text))
+
+-- no frame up to the end line is malformed
+unfoldable pub sound : List Frame → Bool
+sound [] = true
+sound (opens b ws ∷ fs) = sound fs
+sound (gives b ws ∷ fs) = sound fs
+sound (ends ∷ fs) = true
+sound (malformed ∷ fs) = false

@@ -1,6 +1,6 @@
 // The frames of an accepted text into the words of a table.
 use crate::frames::Line;
-use crate::frames::line_at;
+use crate::frames::sound_line;
 use crate::frames::word;
 ghost use mathlib.Core.Path.{_≡_};
 ghost use mathlib.Core.Bool.{true};
@@ -62,7 +62,7 @@ pub fn load(text: &[u8], table: &mut [u32])
     let mut a = 0;
     let mut i = 0;
     while p < text.len() {
-        let line = line_at(text, p);
+        let line = sound_line(text, p);
         match line {
             Line::Opens(_) => {
                 put_agent(text, p, table, a);

@@ -2,7 +2,7 @@
 use crate::Row;
 use crate::Told;
 use crate::frames::Line;
-use crate::frames::line_at;
+use crate::frames::sound_line;
 use crate::frames::word;
 use crate::loading::load;
 use crate::placing::in_place;
@@ -15,19 +15,19 @@ ghost use mathlib.Core.Bool.{true};
 ghost use Prim.Native.Nat.{_≤_};
 ghost use lib.ListN.{length, drop};
 ghost use Rattle.tables.specs.Frames.{framesOf};
-ghost use Rattle.tables.specs.Heads.{digitsAt, wordsAt};
+ghost use Rattle.tables.specs.Heads.{digitsAt, wordsAt, sound};
 ghost use Rattle.tables.specs.Reader.{inPlace, rowsNext, rowIn, rowsGood};
 ghost use Rattle.tables.specs.Calls.{Read};
 
 // The rows that come before the next agent or the end.
 fn rows_next(text: &[u8], at: usize) -> u32
-    requires { ⌜ (at ≤ length (now text)) × (rowsNext (framesOf (drop at (now text))) ≤ 32) ⌝ }
+    requires { ⌜ (at ≤ length (now text)) × (sound (framesOf (drop at (now text))) ≡ true) × (rowsNext (framesOf (drop at (now text))) ≤ 32) ⌝ }
     ensures { λ r. ⌜ r ≡ rowsNext (framesOf (drop at (now (text .entry)))) ⌝ }
 {
     let mut p = at;
     let mut c = 0;
     while p < text.len() {
-        let line = line_at(text, p);
+        let line = sound_line(text, p);
         match line {
             Line::Gives(_) => {
                 c += 1;
@@ -66,7 +66,7 @@ fn rows_good(text: &[u8]) -> Told
     let mut early = 0;
     let mut late = 0;
     while p < text.len() {
-        let line = line_at(text, p);
+        let line = sound_line(text, p);
         match line {
             Line::Opens(_) => {
                 p += 37;

@@ -12,6 +12,7 @@ use Rattle.tables.proofs.Arms.{no-frame}
 use Rattle.tables.proofs.Heads.{Framed, framed, full}
 use Rattle.tables.proofs.Accepted.{agent-below, agent-open, row-below}
 use Rattle.tables.proofs.Loads.{Filling, first-words, open-words, row-words, all-words, no-words-left}
+use Rattle.tables.proofs.Sound.{placed-sound}
 use Rattle.tables.proofs.loading.load.Statement.{statement}
 use Rattle.tables.proofs.loading.load.Tie as tie
 
@@ -29,8 +30,8 @@ loop-holds c =
     let s = c .before .before .before .before .before .before in
     first-words (s .args .text .now) _ (length (s .args .table .now)) (s .pre .0) (s .pre .1) (c .before .before .clear .ensures)
 
-line-at-requires : tie.Need-line-at-requires Inv-loop μ-loop
-line-at-requires c κs = c .before .loop .inv .within
+sound-line-requires : tie.Need-sound-line-requires Inv-loop μ-loop
+sound-line-requires c κs = (c .loop-test .taken, placed-sound _ _ _ _ (c .before .loop .inv .placed))
 
 abbrev textOf : tie.In-loop Inv-loop μ-loop → List ℕ
 textOf c = c .before .before .before .before .before .before .before .before .args .text .now
@@ -42,7 +43,7 @@ enum-told c = search needs
 
 opens-here : (c : tie.After-enum-told Inv-loop μ-loop)
     → lineAt (textOf (c .before .before .before)) (c .before .before .before .before .loop .p) ≡ Opens (c .enum-told .given .0 .0)
-opens-here c = sym (c .before .before .line-at .ensures) ∙ c .enum-told .given .1
+opens-here c = sym (c .before .before .sound-line .ensures) ∙ c .enum-told .given .1
 
 opens-line : (c : tie.After-enum-told Inv-loop μ-loop)
     → let l = c .before .before .before .before .loop in
@@ -79,7 +80,7 @@ enum-told-2 c = search needs
 
 gives-here : (c : tie.After-enum-told2 Inv-loop μ-loop)
     → lineAt (textOf (c .before .before .before)) (c .before .before .before .before .loop .p) ≡ Gives (c .enum-told2 .given .0 .0)
-gives-here c = sym (c .before .before .line-at .ensures) ∙ c .enum-told2 .given .1
+gives-here c = sym (c .before .before .sound-line .ensures) ∙ c .enum-told2 .given .1
 
 gives-line : (c : tie.After-enum-told2 Inv-loop μ-loop)
     → let l = c .before .before .before .before .loop in
@@ -124,7 +125,7 @@ same-length c =
 
 returns : tie.Need-returns Inv-loop μ-loop
 returns c =
-    let q = c .before .line-at in
+    let q = c .before .sound-line in
     all-words (c .before .before .before .loop .inv) (ap full (sym (q .ensures)) ∙ no-frame (q .result) (c .match .keys3))
 
 same-length-2 : tie.Need-same-length-2 Inv-loop μ-loop
@@ -141,7 +142,7 @@ load-spec =
     μ-loop
     clear-requires
     loop-holds
-    line-at-requires
+    sound-line-requires
     enum-told
     put-agent-requires
     add-p

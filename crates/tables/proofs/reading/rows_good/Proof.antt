@@ -12,6 +12,7 @@ use Rattle.tables.specs.declared.frames.Line.the-variants.{Opens, Gives}
 use Rattle.tables.proofs.Arms.{no-frame}
 use Rattle.tables.proofs.Heads.{full}
 use Rattle.tables.proofs.RowsRead.{Turn, first-turn, few-lines, open-room, open-rows, open-turn, gives-line, row-below, row-turn, row-refused, no-line, no-text}
+use Rattle.tables.proofs.Sound.{placed-sound}
 use Rattle.tables.proofs.reading.rows_good.Statement.{statement}
 use Rattle.tables.proofs.reading.rows_good.Tie as tie
 
@@ -24,8 +25,8 @@ abbrev μ-loop : tie.MeasureT-loop
 loop-holds : tie.Need-loop-holds Inv-loop μ-loop
 loop-holds c = first-turn (c .before .args .text .now) (c .before .pre)
 
-line-at-requires : tie.Need-line-at-requires Inv-loop μ-loop
-line-at-requires c κs = c .before .loop .inv .within
+sound-line-requires : tie.Need-sound-line-requires Inv-loop μ-loop
+sound-line-requires c κs = (c .loop-test .taken, placed-sound _ _ _ _ (c .before .loop .inv .placed))
 
 -- ---- an agent is opened
 
@@ -34,7 +35,7 @@ enum-told c = search needs
 
 opens-here : (c : tie.After-enum-told Inv-loop μ-loop)
     → lineAt (c .before .before .before .before .before .before .args .text .now) (c .before .before .before .before .loop .p) ≡ Opens (c .enum-told .given .0 .0)
-opens-here c = sym (c .before .before .line-at .ensures) ∙ c .enum-told .given .1
+opens-here c = sym (c .before .before .sound-line .ensures) ∙ c .enum-told .given .1
 
 room : (c : tie.After-enum-told Inv-loop μ-loop)
     → c .before .before .before .before .loop .p + 37 ≤ length (c .before .before .before .before .before .before .args .text .now)
@@ -47,7 +48,9 @@ add-n : tie.Need-add-n Inv-loop μ-loop
 add-n c = omega (arith, few-lines (c .before .before .before .before .loop .inv))
 
 rows-next-requires : tie.Need-rows-next-requires Inv-loop μ-loop
-rows-next-requires c κs = (room c, open-rows (c .before .before .before .before .loop .inv) (opens-here c))
+rows-next-requires c κs =
+    let t = c .before .before .before .before .loop .inv in
+    (room c, placed-sound _ _ _ _ (open-turn t (opens-here c) .placed), open-rows t (opens-here c))
 
 loop-less : tie.Need-loop-less Inv-loop μ-loop
 loop-less c = omega (arith, room (c .before))
@@ -68,7 +71,7 @@ enum-told-2 c = search needs
 
 gives-here : (c : tie.After-enum-told2 Inv-loop μ-loop)
     → lineAt (c .before .before .before .before .before .before .args .text .now) (c .before .before .before .before .loop .p) ≡ Gives (c .enum-told2 .given .0 .0)
-gives-here c = sym (c .before .before .line-at .ensures) ∙ c .enum-told2 .given .1
+gives-here c = sym (c .before .before .sound-line .ensures) ∙ c .enum-told2 .given .1
 
 row-in-requires : tie.Need-row-in-requires Inv-loop μ-loop
 row-in-requires c κs =
@@ -122,7 +125,7 @@ loop-again-2 c =
 
 returns-2 : tie.Need-returns-2 Inv-loop μ-loop
 returns-2 c =
-    let q = c .before .line-at in
+    let q = c .before .sound-line in
     sym (no-line (c .before .before .before .loop .inv) (ap full (sym (q .ensures)) ∙ no-frame (q .result) (c .match .keys3)))
 
 returns-3 : tie.Need-returns-3 Inv-loop μ-loop
@@ -135,7 +138,7 @@ rows-good-spec =
     Inv-loop
     μ-loop
     loop-holds
-    line-at-requires
+    sound-line-requires
     enum-told
     add-p
     add-n
