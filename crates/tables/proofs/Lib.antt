@@ -15,6 +15,7 @@ pub mod RowsRead
 pub mod Loads
 pub mod Outcomes
 pub mod Sound
+pub mod Digits
 pub mod Stores
 pub mod Growing
 pub mod ReadGood

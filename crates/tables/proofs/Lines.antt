@@ -74,6 +74,13 @@ hex-value c h = go (hex-either c h)
     go (inl w) = let l = w .0 in let u = w .1 in let d = w .2 in omega arith
     go (inr w) = let l = w .0 in let u = w .1 in let d = w .2 in omega arith
 
+pub hex-below : (c : ℕ) → hexDigit c < 16 → c < 71
+hex-below c h = go (hex-either c h)
+  where
+    go : ((48 ≤ c) × (c ≤ 57) × (hexDigit c ≡ c - 48)) ⊎ ((65 ≤ c) × (c ≤ 70) × (hexDigit c ≡ c - 55)) → c < 71
+    go (inl w) = let u = w .1 in omega arith
+    go (inr w) = let u = w .1 in omega arith
+
 -- the digits 0 and 1
 pub hex-small : (c n : ℕ) → hexDigit c ≡ n → n ≤ 1 → c ≡ 48 + n
 hex-small c n e k = go (hex-either c (omega arith))

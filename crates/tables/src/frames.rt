@@ -6,7 +6,7 @@ ghost use lib.Dec.{ltb};
 ghost use lib.ListN.{length, take, drop};
 ghost use Rattle.tables.specs.Lines as Lines;
 ghost use Rattle.tables.specs.Frames.{framesOf};
-ghost use Rattle.tables.specs.Heads.{endAt, digitsAt, lineAt, sound};
+ghost use Rattle.tables.specs.Heads.{endAt, digitsAt, lineAt, sound, twoBytes, eightBytes};
 
 // A line of a table's text: its kind, with the agent's number.
 pub enum Line {
@@ -161,10 +161,39 @@ pub fn sound_line(text: &[u8], at: usize) -> Line
     Line::Gives(field(text, at + 2, 2))
 }
 
-// The word in the eight digits from digit i of the line at this place.
+fn wide(b: u8) -> u64
+    ensures { λ r. ⌜ (r ≡ b) × (r < 256) ⌝ }
+{
+    b as u64
+}
+
+// Two bytes as a number, the first the higher.
+fn two(text: &[u8], p: usize) -> u64
+    requires { ⌜ p + 2 ≤ length (now text) ⌝ }
+    ensures { λ r. ⌜ (r ≡ twoBytes (now (text .entry)) p) × (r < 65536) ⌝ }
+{
+    256 * wide(text[p]) + wide(text[p + 1])
+}
+
+// Eight bytes as a number, the first the highest.
+fn eight(text: &[u8], p: usize) -> u64
+    requires { ⌜ p + 8 ≤ length (now text) ⌝ }
+    ensures { λ r. ⌜ r ≡ eightBytes (now (text .entry)) p ⌝ }
+{
+    let high = 65536 * two(text, p) + two(text, p + 2);
+    let low = 65536 * two(text, p + 4) + two(text, p + 6);
+    4294967296 * high + low
+}
+
+// The word in the eight digits from digit i of the line at this place. All eight are decoded at once: each byte to its digit, then the digits are
+// moved together in pairs.
 pub fn word(text: &[u8], at: usize, i: usize) -> u32
     requires { ⌜ (at ≤ length (now text)) × (digitsAt 36 (now text) at ≡ true) × (i + 8 ≤ 36) ⌝ }
     ensures { λ r. ⌜ r ≡ Lines.field (drop at (now (text .entry))) i 8 ⌝ }
 {
-    field(text, at + i, 8)
+    let x = eight(text, at + i);
+    let digits = (x & 0x0F0F_0F0F_0F0F_0F0F) + 9 * ((x & 0x4040_4040_4040_4040) / 64);
+    let bytes = (digits + digits / 16) & 0x00FF_00FF_00FF_00FF;
+    let pairs = (bytes + bytes / 256) & 0x0000_FFFF_0000_FFFF;
+    ((pairs + pairs / 65536) % 4294967296) as u32
 }
