@@ -210,7 +210,7 @@ module _ (text : List ℕ) (p : ℕ) where
       let w : min 3 (length text - p) ≡ 3 = simp (length-take, length-drop) at (ap length (same-eq (take 3 (drop p text)) endLine h)) in omega arith
 
   -- the end line stands where the answer is that it does
-  ends-at : lineAt text p ≡ Ends → endAt text p ≡ true
+  pub ends-at : lineAt text p ≡ Ends → endAt text p ≡ true
   ends-at e = go (endAt text p) refl (digitsAt 36 text p) refl
     where
       no-kind : (k a : ℕ) → kindLine k a ≡ Ends → ⊥

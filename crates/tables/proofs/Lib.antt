@@ -14,6 +14,8 @@ pub mod Accepted
 pub mod RowsRead
 pub mod Loads
 pub mod Outcomes
+pub mod Sound
+pub mod Digits
 pub mod Stores
 pub mod Growing
 pub mod ReadGood

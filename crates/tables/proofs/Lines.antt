@@ -1,15 +1,16 @@
 -- Strings of bytes, digits and numbers, a byte at a time; and the lines of a text: they are the text, and each ends at its newline. Assumes nothing.
 use mathlib.Core.Path.{_≡_, refl, sym, ap, _∙_}
-use mathlib.Core.Bool.{Bool, true, false, _&&_}
+use mathlib.Core.Bool.{Bool, true, false, _&&_, cond}
+use mathlib.Core.Logic.{_⊎_, inl, inr}
 use mathlib.Core.List.{List, [], _∷_}
-use Prim.Native.Nat.{ℕ, zero, suc, _+_, _-_, _*_, _≤_, _<_, _^_}
+use Prim.Native.Nat.{ℕ, zero, suc, _+_, _-_, _*_, _/_, _%_, _≤_, _<_, _^_}
 use native.Mathlib.Nat.{pow-succ', pow-le-pow-right, lt-of-lt-of-le}
 use native.Mathlib.Numerals.{add-one}
 use native.Mathlib.Omega.{arith}
-use lib.Dec.{ltb, eqb, lit<}
+use lib.Dec.{ltb, leb, eqb, lit<}
 use lib.ListN.{length, take, drop, getD, length-take, length-drop, drop-of-length-le}
 use lib.Seq.{drop-cons, drop-at, take-suc, take-take, length-take-le, getD-drop}
-use borrow.Author.Tests.{eqb-true, eq-eqb, ltb-true, lt-ltb}
+use borrow.Author.Tests.{eqb-true, eq-eqb, ltb-true, lt-ltb, leb-true, ne-eqb}
 use Rattle.tables.specs.Lines.{same, newline, hexDigit, allHex, number, digitsLine}
 use Rattle.tables.specs.Heads.{digitsAt}
 use Rattle.tables.proofs.Tests.{and-left, and-right}
@@ -52,6 +53,42 @@ same-step a b i h k = rw (add-one i, drop-cons a i 0 h, drop-cons b i 0 k)
 
 -- ---- digits, and the number that they stand for
 
+-- a digit is one of 0 to 9 or one of A to F
+hex-either : (c : ℕ) → hexDigit c < 16
+    → ((48 ≤ c) × (c ≤ 57) × (hexDigit c ≡ c - 48)) ⊎ ((65 ≤ c) × (c ≤ 70) × (hexDigit c ≡ c - 55))
+unfolding hexDigit
+hex-either c h = go (leb 48 c && leb c 57) refl (leb 65 c && leb c 70) refl h
+  where
+    go : (a : Bool) → (leb 48 c && leb c 57) ≡ a → (b : Bool) → (leb 65 c && leb c 70) ≡ b → cond a (c - 48) (cond b (c - 55) 16) < 16
+        → ((48 ≤ c) × (c ≤ 57) × (cond a (c - 48) (cond b (c - 55) 16) ≡ c - 48))
+        ⊎ ((65 ≤ c) × (c ≤ 70) × (cond a (c - 48) (cond b (c - 55) 16) ≡ c - 55))
+    go true e b f k = inl (leb-true _ _ (and-1 (leb 48 c) (leb c 57) e), leb-true _ _ (and-2 (leb 48 c) (leb c 57) e), refl)
+    go false e true f k = inr (leb-true _ _ (and-1 (leb 65 c) (leb c 70) f), leb-true _ _ (and-2 (leb 65 c) (leb c 70) f), refl)
+    go false e false f k = absurd (omega arith)
+
+-- the number of a digit, without a case
+pub hex-value : (c : ℕ) → hexDigit c < 16 → c % 16 + 9 * (c / 64) ≡ hexDigit c
+hex-value c h = go (hex-either c h)
+  where
+    go : ((48 ≤ c) × (c ≤ 57) × (hexDigit c ≡ c - 48)) ⊎ ((65 ≤ c) × (c ≤ 70) × (hexDigit c ≡ c - 55)) → c % 16 + 9 * (c / 64) ≡ hexDigit c
+    go (inl w) = let l = w .0 in let u = w .1 in let d = w .2 in omega arith
+    go (inr w) = let l = w .0 in let u = w .1 in let d = w .2 in omega arith
+
+pub hex-below : (c : ℕ) → hexDigit c < 16 → c < 71
+hex-below c h = go (hex-either c h)
+  where
+    go : ((48 ≤ c) × (c ≤ 57) × (hexDigit c ≡ c - 48)) ⊎ ((65 ≤ c) × (c ≤ 70) × (hexDigit c ≡ c - 55)) → c < 71
+    go (inl w) = let u = w .1 in omega arith
+    go (inr w) = let u = w .1 in omega arith
+
+-- the digits 0 and 1
+pub hex-small : (c n : ℕ) → hexDigit c ≡ n → n ≤ 1 → c ≡ 48 + n
+hex-small c n e k = go (hex-either c (omega arith))
+  where
+    go : ((48 ≤ c) × (c ≤ 57) × (hexDigit c ≡ c - 48)) ⊎ ((65 ≤ c) × (c ≤ 70) × (hexDigit c ≡ c - 55)) → c ≡ 48 + n
+    go (inl w) = let l = w .0 in let u = w .1 in let d = w .2 in omega arith
+    go (inr w) = let l = w .0 in let u = w .1 in let d = w .2 in omega arith
+
 hex-more : (l : List ℕ) (n : ℕ) → n < length l → allHex (take (suc n) l) ≡ (allHex (take n l) && ltb (hexDigit (getD l n 0)) 16)
 unfolding allHex
 hex-more [] n h = absurd (omega arith)
@@ -63,6 +100,22 @@ hex-more (x ∷ l) (suc n) h =
 -- one digit more
 pub hex-go : (l : List ℕ) (n : ℕ) → n < length l → allHex (take n l) ≡ true → hexDigit (getD l n 0) < 16 → allHex (take (n + 1) l) ≡ true
 hex-go l n h e d = rw (add-one n, hex-more l n h, e, lt-ltb _ _ d)
+
+pub odd-room : (o c : ℕ) → o ≡ cond (ltb (hexDigit c) 16) 0 1 → o ≤ 1
+odd-room o c = go (ltb (hexDigit c) 16)
+  where
+    go : (t : Bool) → o ≡ cond t 0 1 → o ≤ 1
+    go true e = omega arith
+    go false e = omega arith
+
+-- the bytes that are no digit, counted: one byte more
+pub odds-more : (l : List ℕ) (n g o : ℕ) → n < length l → eqb g 0 ≡ allHex (take n l) → o ≡ cond (ltb (hexDigit (getD l n 0)) 16) 0 1
+    → eqb (g + o) 0 ≡ allHex (take (n + 1) l)
+odds-more l n g o h e q = rw (add-one n, hex-more l n h, ← e, q) (go (ltb (hexDigit (getD l n 0)) 16))
+  where
+    go : (t : Bool) → eqb (g + cond t 0 1) 0 ≡ (eqb g 0 && t)
+    go true = let e : g + 0 ≡ g = omega arith in ap (λ (m : ℕ). eqb m 0) e ∙ sym (and-true (eqb g 0))
+    go false = let n : g + 1 ≡ 0 → ⊥ = λ z. omega arith in ne-eqb (g + 1) 0 n ∙ sym (and-right (eqb g 0) false refl)
 
 -- what some digits say of each of them
 pub hex-at : (l : List ℕ) (n i : ℕ) → allHex (take n l) ≡ true → i < n → i < length l → hexDigit (getD l i 0) < 16
@@ -113,6 +166,11 @@ module _ (text : List ℕ) (at k j : ℕ) (h : at + k ≤ length text) (i : j < 
       let n : j < length (drop at text) = simp length-drop (omega arith) in
       rw (number-more (drop at text) j n, getD-drop)
 
+  pub hex-in : allHex (take k (drop at text)) ≡ true → hexDigit (getD text (at + j) 0) < 16
+  hex-in e =
+      let n : j < length (drop at text) = simp length-drop (omega arith) in
+      rw getD-drop at (hex-at (drop at text) k j e i n)
+
   pub number-room : k ≤ 8 → allHex (take k (drop at text)) ≡ true → 16 * number 0 (take j (drop at text)) + hexDigit (getD text (at + j) 0) < 2 ^ 32
   number-room w e =
       let n : j + 1 ≤ length (drop at text) = simp length-drop (omega arith) in
@@ -146,6 +204,11 @@ module _ (n : ℕ) (text : List ℕ) (at : ℕ) where
   digits-last g h e =
       let k : n < length (drop at text) = simp length-drop (omega arith) in
       rw (digits-line n (drop at text) k, e, getD-drop at text n 0)
+
+  pub digits-odd : at ≤ length text → n < length text - at → allHex (take n (drop at text)) ≡ false → digitsAt n text at ≡ false
+  unfolding digitsAt
+  digits-odd g h e =
+      let k : n < length (drop at text) = simp length-drop (omega arith) in digits-line n (drop at text) k ∙ and-left _ _ e
 
   pub digits-other : at ≤ length text → n < length text - at → (j : ℕ) → j < n → 15 < hexDigit (getD text (at + j) 0) → digitsAt n text at ≡ false
   unfolding digitsAt

@@ -48,7 +48,7 @@ module _ {text : List ℕ} {p n c i e l : ℕ} (t : Turn text p n c i e l) where
   few-lines = let q = t .placed .line in let a = t .placed .agents in let r = t .placed .rows in omega arith
 
   module _ {b : ℕ} (o : lineAt text p ≡ Opens b) where
-    opens-line : Framed text p (opens b (wordsAt text p))
+    pub opens-line : Framed text p (opens b (wordsAt text p))
     opens-line = framed text p (t .within) (Opens b) o refl
 
     pub open-room : p + 37 ≤ length text

@@ -1,8 +1,8 @@
 -- What stands at a place of a text: the end line, a line of digits, a frame. Assumes nothing.
-use mathlib.Core.Bool.{Bool}
+use mathlib.Core.Bool.{Bool, true, false}
 use mathlib.Core.List.{List, [], _∷_}
-use Prim.Native.Nat.{ℕ, _+_}
-use lib.ListN.{take, drop}
+use Prim.Native.Nat.{ℕ, _+_, _*_}
+use lib.ListN.{take, drop, getD}
 use Rattle.tables.specs.Lines.{same, endLine, digitsLine}
 use Rattle.tables.specs.Frames.{Frame, opens, gives, ends, malformed, fourWords, framesOf}
 use Rattle.tables.specs.declared.frames.Line.{Line}
@@ -31,3 +31,19 @@ headLine (malformed ∷ fs) = Malformed
 -- the line that begins at place p
 unfoldable pub lineAt : List ℕ → ℕ → Line
 lineAt text p = headLine (framesOf (drop p text))
+
+-- no frame up to the end line is malformed
+unfoldable pub sound : List Frame → Bool
+sound [] = true
+sound (opens b ws ∷ fs) = sound fs
+sound (gives b ws ∷ fs) = sound fs
+sound (ends ∷ fs) = true
+sound (malformed ∷ fs) = false
+
+-- two bytes and eight bytes from place p as a number, the first the highest
+abbrev pub twoBytes : List ℕ → ℕ → ℕ
+twoBytes text p = 256 * getD text p 0 + getD text (p + 1) 0
+
+abbrev pub eightBytes : List ℕ → ℕ → ℕ
+eightBytes text p =
+    4294967296 * (65536 * twoBytes text p + twoBytes text (p + 2)) + (65536 * twoBytes text (p + 4) + twoBytes text (p + 6))

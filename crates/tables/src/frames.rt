@@ -1,10 +1,12 @@
 // What stands at a place of a text. Lines have fixed widths, so no newline is searched for.
 ghost use mathlib.Core.Path.{_≡_};
-ghost use mathlib.Core.Bool.{true};
-ghost use Prim.Native.Nat.{_+_, _≤_};
+ghost use mathlib.Core.Bool.{true, cond};
+ghost use Prim.Native.Nat.{_+_, _≤_, _<_};
+ghost use lib.Dec.{ltb};
 ghost use lib.ListN.{length, take, drop};
 ghost use Rattle.tables.specs.Lines as Lines;
-ghost use Rattle.tables.specs.Heads.{endAt, digitsAt, lineAt};
+ghost use Rattle.tables.specs.Frames.{framesOf};
+ghost use Rattle.tables.specs.Heads.{endAt, digitsAt, lineAt, sound, twoBytes, eightBytes};
 
 // A line of a table's text: its kind, with the agent's number.
 pub enum Line {
@@ -71,6 +73,45 @@ pub fn is_digits_line(text: &[u8], at: usize, n: usize) -> bool
     text[at + n] == b'\n'
 }
 
+// 1 for a byte that is no digit, else 0.
+fn odd(b: u8) -> u8
+    ensures { λ r. ⌜ r ≡ cond (ltb (Lines.hexDigit b) 16) 0 1 ⌝ }
+{
+    if digit(b) < 16 {
+        return 0;
+    }
+    1
+}
+
+// Whether 36 digits and a newline stand at this place. The bytes that are no digit are counted, which runs in vector registers.
+fn is_frame(text: &[u8], at: usize) -> bool
+    requires { ⌜ at ≤ length (now text) ⌝ }
+    ensures { λ r. ⌜ r ≡ digitsAt 36 (now (text .entry)) at ⌝ }
+{
+    if text.len() - at <= 36 {
+        return false;
+    }
+    let mut odds = 0;
+    let mut j = 0;
+    while j < 36 {
+        odds = odds + odd(text[at + j]);
+        j += 1;
+    }
+    if odds != 0 {
+        return false;
+    }
+    text[at + 36] == b'\n'
+}
+
+// The number that a digit stands for, without a branch.
+fn value(b: u8) -> u32
+    requires { ⌜ Lines.hexDigit b < 16 ⌝ }
+    ensures { λ r. ⌜ r ≡ Lines.hexDigit b ⌝ }
+{
+    let c = b as u32;
+    c % 16 + 9 * (c / 64)
+}
+
 // The number in k digits.
 pub fn field(text: &[u8], at: usize, k: usize) -> u32
     requires { ⌜ (at + k ≤ length (now text)) × (k ≤ 8) × (Lines.allHex (take k (drop at (now text))) ≡ true) ⌝ }
@@ -79,7 +120,7 @@ pub fn field(text: &[u8], at: usize, k: usize) -> u32
     let mut v = 0;
     let mut j = 0;
     while j < k {
-        v = 16 * v + digit(text[at + j]);
+        v = 16 * v + value(text[at + j]);
         j += 1;
     }
     v
@@ -93,7 +134,7 @@ pub fn line_at(text: &[u8], at: usize) -> Line
     if is_end(text, at) {
         return Line::Ends;
     }
-    if !is_digits_line(text, at, 36) {
+    if !is_frame(text, at) {
         return Line::Malformed;
     }
     let kind = field(text, at, 2);
@@ -106,10 +147,53 @@ pub fn line_at(text: &[u8], at: usize) -> Line
     Line::Malformed
 }
 
-// The word in the eight digits from digit i of the line at this place.
+// The line that begins at this place, where no line from here to the end is malformed: two of its bytes tell.
+pub fn sound_line(text: &[u8], at: usize) -> Line
+    requires { ⌜ (at < length (now text)) × (sound (framesOf (drop at (now text))) ≡ true) ⌝ }
+    ensures { λ r. ⌜ r ≡ lineAt (now (text .entry)) at ⌝ }
+{
+    if text[at] == b'F' {
+        return Line::Ends;
+    }
+    if text[at + 1] == b'0' {
+        return Line::Opens(field(text, at + 2, 2));
+    }
+    Line::Gives(field(text, at + 2, 2))
+}
+
+fn wide(b: u8) -> u64
+    ensures { λ r. ⌜ (r ≡ b) × (r < 256) ⌝ }
+{
+    b as u64
+}
+
+// Two bytes as a number, the first the higher.
+fn two(text: &[u8], p: usize) -> u64
+    requires { ⌜ p + 2 ≤ length (now text) ⌝ }
+    ensures { λ r. ⌜ (r ≡ twoBytes (now (text .entry)) p) × (r < 65536) ⌝ }
+{
+    256 * wide(text[p]) + wide(text[p + 1])
+}
+
+// Eight bytes as a number, the first the highest.
+fn eight(text: &[u8], p: usize) -> u64
+    requires { ⌜ p + 8 ≤ length (now text) ⌝ }
+    ensures { λ r. ⌜ r ≡ eightBytes (now (text .entry)) p ⌝ }
+{
+    let high = 65536 * two(text, p) + two(text, p + 2);
+    let low = 65536 * two(text, p + 4) + two(text, p + 6);
+    4294967296 * high + low
+}
+
+// The word in the eight digits from digit i of the line at this place. All eight are decoded at once: each byte to its digit, then the digits are
+// moved together in pairs.
 pub fn word(text: &[u8], at: usize, i: usize) -> u32
     requires { ⌜ (at ≤ length (now text)) × (digitsAt 36 (now text) at ≡ true) × (i + 8 ≤ 36) ⌝ }
     ensures { λ r. ⌜ r ≡ Lines.field (drop at (now (text .entry))) i 8 ⌝ }
 {
-    field(text, at + i, 8)
+    let x = eight(text, at + i);
+    let digits = (x & 0x0F0F_0F0F_0F0F_0F0F) + 9 * ((x & 0x4040_4040_4040_4040) / 64);
+    let bytes = (digits + digits / 16) & 0x00FF_00FF_00FF_00FF;
+    let pairs = (bytes + bytes / 256) & 0x0000_FFFF_0000_FFFF;
+    ((pairs + pairs / 65536) % 4294967296) as u32
 }

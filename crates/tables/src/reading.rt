@@ -1,10 +1,12 @@
-// The reader of frames. The text is passed for replies 2 and 3, then for 4 to 7, and only then is the table written.
-use crate::Row;
+// The reader of frames. The text is passed for replies 2 and 3, then for 4 to 7 while a table beside the lent one is filled, which is then copied.
 use crate::Told;
 use crate::frames::Line;
-use crate::frames::line_at;
+use crate::frames::sound_line;
 use crate::frames::word;
-use crate::loading::load;
+use crate::loading::clear;
+use crate::loading::copy;
+use crate::loading::put_agent;
+use crate::loading::put_row;
 use crate::placing::in_place;
 use crate::replies::ACCEPTED;
 use crate::replies::TOO_SHORT;
@@ -15,19 +17,20 @@ ghost use mathlib.Core.Bool.{true};
 ghost use Prim.Native.Nat.{_≤_};
 ghost use lib.ListN.{length, drop};
 ghost use Rattle.tables.specs.Frames.{framesOf};
-ghost use Rattle.tables.specs.Heads.{digitsAt, wordsAt};
-ghost use Rattle.tables.specs.Reader.{inPlace, rowsNext, rowIn, rowsGood};
+ghost use Rattle.tables.specs.Heads.{sound};
+ghost use Rattle.tables.specs.Layout.{tableWords};
+ghost use Rattle.tables.specs.Reader.{inPlace, rowsNext, rowsGood, tableOf};
 ghost use Rattle.tables.specs.Calls.{Read};
 
 // The rows that come before the next agent or the end.
 fn rows_next(text: &[u8], at: usize) -> u32
-    requires { ⌜ (at ≤ length (now text)) × (rowsNext (framesOf (drop at (now text))) ≤ 32) ⌝ }
+    requires { ⌜ (at ≤ length (now text)) × (sound (framesOf (drop at (now text))) ≡ true) × (rowsNext (framesOf (drop at (now text))) ≤ 32) ⌝ }
     ensures { λ r. ⌜ r ≡ rowsNext (framesOf (drop at (now (text .entry)))) ⌝ }
 {
     let mut p = at;
     let mut c = 0;
     while p < text.len() {
-        let line = line_at(text, p);
+        let line = sound_line(text, p);
         match line {
             Line::Gives(_) => {
                 c += 1;
@@ -41,47 +44,43 @@ fn rows_next(text: &[u8], at: usize) -> u32
     c
 }
 
-// The row that the line at this place gives.
-fn row_in(text: &[u8], at: usize) -> Row
-    requires { ⌜ (at ≤ length (now text)) × (digitsAt 36 (now text) at ≡ true) ⌝ }
-    ensures { λ r. ⌜ r ≡ rowIn (wordsAt (now (text .entry)) at) ⌝ }
+// Replies 4 to 7, or 0, of a text whose lines are in their places, and where it is 0 the table.
+fn take_rows(text: &[u8], table: &mut [u32]) -> Told
+    requires { ⌜ (inPlace 1 0 0 (framesOf (now text)) .reply ≡ 0) × (length (now table) ≡ tableWords) ⌝ }
+    ensures { λ r. ⌜ (r ≡ rowsGood 1 0 0 0 0 (framesOf (now (text .entry)))) × (r .reply ≡ 0 → now (table .exit) ≡ tableOf (framesOf (now (text .entry)))) ⌝ }
 {
-    row_of(
-        word(text, at, 4),
-        word(text, at, 12),
-        word(text, at, 20),
-        word(text, at, 28),
-    )
-}
-
-// Replies 4 to 7, or 0, of a text whose lines are in their places.
-fn rows_good(text: &[u8]) -> Told
-    requires { ⌜ inPlace 1 0 0 (framesOf (now text)) .reply ≡ 0 ⌝ }
-    ensures { λ r. ⌜ r ≡ rowsGood 1 0 0 0 0 (framesOf (now (text .entry))) ⌝ }
-{
+    clear(table);
     let mut p = 0;
     let mut n = 1;
+    let mut a = 0;
     let mut c = 0;
     let mut i = 0;
     let mut early = 0;
     let mut late = 0;
     while p < text.len() {
-        let line = line_at(text, p);
+        let line = sound_line(text, p);
         match line {
             Line::Opens(_) => {
+                put_agent(text, p, table, a);
                 p += 37;
                 n += 1;
+                a += 1;
                 c = rows_next(text, p);
                 i = 0;
                 early = 0;
                 late = 0;
             }
             Line::Gives(_) => {
-                let row = row_in(text, p);
-                let reply = row_reply(row, i, c, early, late);
+                let code = word(text, p, 4);
+                let k = word(text, p, 12);
+                let from = word(text, p, 20);
+                let to = word(text, p, 28);
+                let row = row_of(code, k, from, to);
+                let reply = row_reply(row, i as u32, c, early, late);
                 if reply != ACCEPTED {
                     return Told { reply, line: n };
                 }
+                put_row(table, a, i, code, k, from, to);
                 p += 37;
                 n += 1;
                 i += 1;
@@ -102,7 +101,14 @@ fn rows_good(text: &[u8]) -> Told
     }
 }
 
-// Reads a table's text into the lent words: the reply, with its line. The words are written only once every row is accepted.
+// A table of some words.
+fn blank_table() -> [u32; 2129]
+    ensures { λ r. ⌜ length r ≡ tableWords ⌝ }
+{
+    [0; 2129]
+}
+
+// Reads a table's text into the lent words: the reply, with its line. They are written only once every row is accepted.
 pub fn read(text: &[u8], table: &mut [u32]) -> Told
     ensures { λ r. ⌜ Read (now (text .entry)) (now (table .entry)) r (now (table .exit)) ⌝ }
 {
@@ -116,10 +122,11 @@ pub fn read(text: &[u8], table: &mut [u32]) -> Told
     if placed.reply != ACCEPTED {
         return placed;
     }
-    let good = rows_good(text);
+    let mut words = blank_table();
+    let good = take_rows(text, &mut words);
     if good.reply != ACCEPTED {
         return good;
     }
-    load(text, &mut table[..2129]);
+    copy(&words, &mut table[..2129]);
     good
 }

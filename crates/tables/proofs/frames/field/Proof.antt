@@ -4,7 +4,7 @@ use Prim.Native.Nat.{_+_, _*_, _-_, _≤_, _<_, _^_}
 use native.Mathlib.Omega.{arith}
 use lib.ListN.{take, drop, getD}
 use Rattle.tables.specs.Lines.{number, field, hexDigit}
-use Rattle.tables.proofs.Lines.{number-next, number-room}
+use Rattle.tables.proofs.Lines.{number-next, number-room, hex-in}
 use Rattle.tables.proofs.frames.field.Statement.{statement}
 use Rattle.tables.proofs.frames.field.Tie as tie
 
@@ -31,14 +31,17 @@ room c =
 mul-v : tie.Need-mul-v Inv-loop μ-loop
 mul-v c = omega (arith, room c)
 
-add-digit : tie.Need-add-digit Inv-loop μ-loop
-add-digit c = omega arith
+add-value : tie.Need-add-value Inv-loop μ-loop
+add-value c = omega arith
 
-shared-slice-read-digit : tie.Need-shared-slice-read-digit Inv-loop μ-loop
-shared-slice-read-digit c = omega arith
+shared-slice-read-value : tie.Need-shared-slice-read-value Inv-loop μ-loop
+shared-slice-read-value c = omega arith
 
-digit-requires : tie.Need-digit-requires Inv-loop μ-loop
-digit-requires c κs = tt
+value-requires : tie.Need-value-requires Inv-loop μ-loop
+value-requires c κs =
+    let l = c .before .before .loop in
+    let g = c .before .before .before .before .args in
+    hex-in (g .text .now) (g .at) (g .k) (l .j) (omega arith) (omega arith) (c .before .before .before .before .pre .2)
 
 add-v : tie.Need-add-v Inv-loop μ-loop
 add-v c = omega (arith, room (c .before .before))
@@ -70,9 +73,9 @@ field-spec =
     μ-loop
     loop-holds
     mul-v
-    add-digit
-    shared-slice-read-digit
-    digit-requires
+    add-value
+    shared-slice-read-value
+    value-requires
     add-v
     add-j
     loop-less

@@ -18,8 +18,8 @@ returns c =
     let g = c .before .before .before .args in
     sym (line-end-at (g .text .now) (g .at) (sym (c .before .is-end .ensures) ∙ c .if1 .taken))
 
-is-digits-line-requires : tie.Need-is-digits-line-requires
-is-digits-line-requires c κs = search needs
+is-frame-requires : tie.Need-is-frame-requires
+is-frame-requires c κs = search needs
 
 returns-2 : tie.Need-returns-2
 returns-2 c =
@@ -29,11 +29,11 @@ returns-2 c =
     (g .text .now)
     (g .at)
     (sym (c .before .before .before .is-end .ensures) ∙ c .before .before .if1 .left)
-    (sym (c .before .is-digits-line .ensures) ∙ not-true _ (c .if2 .taken)))
+    (sym (c .before .is-frame .ensures) ∙ not-true _ (c .if2 .taken)))
 
 -- 36 digits stand here
 digits : (c : tie.Else2) → let g = c .before .before .before .before .before .args in digitsAt 36 (g .text .now) (g .at) ≡ true
-digits c = sym (c .before .is-digits-line .ensures) ∙ not-false _ (c .if2 .left)
+digits c = sym (c .before .is-frame .ensures) ∙ not-false _ (c .if2 .left)
 
 field-requires : tie.Need-field-requires
 field-requires c κs =
@@ -79,7 +79,7 @@ line-at-spec =
     (tie.spec
     is-end-requires
     returns
-    is-digits-line-requires
+    is-frame-requires
     returns-2
     field-requires
     add-field

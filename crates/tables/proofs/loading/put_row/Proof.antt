@@ -34,12 +34,12 @@ add-put-words-2 : tie.Need-add-put-words-2
 add-put-words-2 c = search needs
 
 put-words-requires : tie.Need-put-words-requires
-put-words-requires c κs = let p = c .before .before .before .pre in (p .0, p .1, simp length-set (omega arith))
+put-words-requires c κs = simp length-set (omega arith)
 
 same-length : tie.Need-same-length
 same-length c =
-    let g = c .before .before .before .before .before .before .args in
-    c .before .before .put-words .kept .1 .1 .0 ∙ length-set (g .table .now) (g .a) (g .i + 1)
+    let g = c .before .before .before .before .before .args in
+    c .before .before .put-words .kept .0 ∙ length-set (g .table .now) (g .a) (g .i + 1)
 
 returns : tie.Need-returns
 returns c = search needs

@@ -1,4 +1,4 @@
-use mathlib.Core.Path.{_≡_, _∙_}
+use mathlib.Core.Path.{_≡_}
 use mathlib.Core.List.{List, [], _∷_}
 use Prim.Native.Nat.{ℕ, suc, _+_}
 use native.Mathlib.Numerals.{add-one}
@@ -6,21 +6,14 @@ use native.Mathlib.Omega.{arith}
 use lib.ListN.{set, length-set}
 use lib.Seq.{sets}
 use borrow.Author.Needs.{needs}
-use Rattle.tables.specs.Frames.{fourWords}
 use Rattle.tables.proofs.loading.put_words.Statement.{statement}
 use Rattle.tables.proofs.loading.put_words.Tie as tie
-
-word-requires : tie.Need-word-requires
-word-requires c κs = search needs
 
 mul-table : tie.Need-mul-table
 mul-table c = search needs
 
 slice-write-table : tie.Need-slice-write-table
 slice-write-table c = search needs
-
-word-requires-2 : tie.Need-word-requires-2
-word-requires-2 c κs = search needs
 
 add-table : tie.Need-add-table
 add-table c = search needs
@@ -31,9 +24,6 @@ mul-table-2 c = search needs
 slice-write-table-2 : tie.Need-slice-write-table-2
 slice-write-table-2 c = simp length-set (omega arith)
 
-word-requires-3 : tie.Need-word-requires-3
-word-requires-3 c κs = search needs
-
 add-table-2 : tie.Need-add-table-2
 add-table-2 c = search needs
 
@@ -42,9 +32,6 @@ mul-table-3 c = search needs
 
 slice-write-table-3 : tie.Need-slice-write-table-3
 slice-write-table-3 c = simp length-set (omega arith)
-
-word-requires-4 : tie.Need-word-requires-4
-word-requires-4 c κs = search needs
 
 add-table-3 : tie.Need-add-table-3
 add-table-3 c = search needs
@@ -66,29 +53,20 @@ stored l p w x y z =
     rw (add-one p, two, three)
 
 returns : tie.Need-returns
-unfolding fourWords
-returns c =
-    let g = c .before .before .before .before .before .before .args in
-    stored (g .table .now) (g .place) _ _ _ _
-    ∙ rw
-    (c .before .before .before .word .ensures, c .before .before .word2 .ensures, c .before .word3 .ensures, c .word4 .ensures)
+returns c = let g = c .args in stored (g .table .now) (g .place) (g .w) (g .x) (g .y) (g .z)
 
 pub put-words-spec : {M : Type 1} → statement M
 put-words-spec =
     tie.close
     (tie.spec
-    word-requires
     mul-table
     slice-write-table
-    word-requires-2
     add-table
     mul-table-2
     slice-write-table-2
-    word-requires-3
     add-table-2
     mul-table-3
     slice-write-table-3
-    word-requires-4
     add-table-3
     mul-table-4
     slice-write-table-4

@@ -4,6 +4,7 @@ use Rattle.tables.specs.Frames.{framesOf}
 use Rattle.tables.specs.Reader.{inPlace}
 use Rattle.tables.specs.declared.Told.{Told}
 use Rattle.tables.proofs.Outcomes.{short-table, not-in-place, not-good, all-good}
+use borrow.Author.Needs.{needs}
 use Rattle.tables.proofs.reading.read.Statement.{statement}
 use Rattle.tables.proofs.reading.read.Tie as tie
 
@@ -11,7 +12,7 @@ returns : tie.Need-returns
 returns c = let g = c .before .before .before .args in short-table (g .text .now) (g .table .now) (c .if1 .taken)
 
 in-place-requires : tie.Need-in-place-requires
-in-place-requires c κs = tt
+in-place-requires c κs = search needs
 
 returns-2 : tie.Need-returns-2
 returns-2 c =
@@ -21,52 +22,64 @@ returns-2 c =
 placed : (c : tie.Else2) → inPlace 1 0 0 (framesOf (c .before .before .before .before .before .before .args .text .now)) .reply ≡ 0
 placed c = ap (λ (t : Told). t .reply) (sym (c .before .before .in-place .ensures)) ∙ c .if2 .left
 
-rows-good-requires : tie.Need-rows-good-requires
-rows-good-requires c κs = placed c
+blank-table-requires : tie.Need-blank-table-requires
+blank-table-requires c κs = search needs
+
+slice-aggregate-take-rows : tie.Need-slice-aggregate-take-rows
+slice-aggregate-take-rows c = search needs
+
+take-rows-requires : tie.Need-take-rows-requires
+take-rows-requires c κs = (placed (c .before .before), c .before .blank-table .ensures)
 
 returns-3 : tie.Need-returns-3
 returns-3 c =
-    let g = c .before .before .before .before .before .before .before .before .before .args in
+    let e = c .before .before .before .before .before .before in
+    let g = e .before .before .before .before .before .before .args in
     not-good
     (g .text .now)
     (g .table .now)
-    (c .before .before .before .before .before .before .if1 .left)
-    (placed (c .before .before .before))
+    (e .before .before .before .if1 .left)
+    (placed e)
     _
-    (c .before .before .rows-good .ensures)
+    (c .before .before .before .take-rows .ensures .0)
     (c .if3 .taken)
 
-slice-relend-prefix-load : tie.Need-slice-relend-prefix-load
-slice-relend-prefix-load c = c .before .before .before .before .before .before .if1 .left
+slice-aggregate-copy : tie.Need-slice-aggregate-copy
+slice-aggregate-copy c = search needs
 
-slice-aggregate-load : tie.Need-slice-aggregate-load
-slice-aggregate-load c =
-    sym (length-take-le 2129 (c .before .before .before .before .before .before .before .before .before .before .args .table .now) (c .before .before .before .before .before .before .before .if1 .left))
+slice-relend-prefix-copy : tie.Need-slice-relend-prefix-copy
+slice-relend-prefix-copy c = search needs
 
-load-requires : tie.Need-load-requires
-load-requires c κs = (
-  placed (c .before .before .before .before),
-  length-take-le 2129 (c .before .before .before .before .before .before .before .before .before .before .args .table .now) (c .before .before .before .before .before .before .before .if1 .left),
-)
+slice-aggregate-copy-2 : tie.Need-slice-aggregate-copy-2
+slice-aggregate-copy-2 c =
+    let e = c .before .before .before .before .before .before .before .before in
+    sym (length-take-le 2129 (e .before .before .before .before .before .before .args .table .now) (e .before .before .before .if1 .left))
+
+copy-requires : tie.Need-copy-requires
+copy-requires c κs =
+    let e = c .before .before .before .before .before .before .before .before in
+    let t = c .before .before .before .before .before in
+    length-take-le 2129 (e .before .before .before .before .before .before .args .table .now) (e .before .before .before .if1 .left)
+    ∙ sym (t .take-rows .kept .1 .0 ∙ t .before .before .blank-table .ensures)
 
 same-length : tie.Need-same-length
-same-length c =
-    let g = c .before .before .before .before .before .before .before .before .before .before .before .before .before .args in
-    length-front (g .table .now) (c .before .before .load .last .1 .0) 2129 (c .before .before .load .kept .1 .0)
+same-length c = search needs
 
 returns-4 : tie.Need-returns-4
 returns-4 c =
-    let g = c .before .before .before .before .before .before .before .before .before .before .before .before .before .args in
+    let e = c .before .before .before .before .before .before .before .before .before .before .before in
+    let t = c .before .before .before .before .before .before .before .before in
+    let g = e .before .before .before .before .before .before .args in
     all-good
     (g .text .now)
     (g .table .now)
-    (c .before .before .before .before .before .before .before .before .before .before .if1 .left)
-    (placed (c .before .before .before .before .before .before .before))
-    (c .before .before .before .before .before .before .rows-good .result)
-    (c .before .before .before .before .before .before .rows-good .ensures)
-    (c .before .before .before .before .if3 .left)
-    (c .before .before .load .last .1 .0)
-    (c .before .before .load .ensures)
+    (e .before .before .before .if1 .left)
+    (placed e)
+    (t .take-rows .result)
+    (t .take-rows .ensures .0)
+    (c .before .before .before .before .before .if3 .left)
+    (c .before .before .copy .last .1 .0)
+    (c .before .before .copy .ensures ∙ t .take-rows .ensures .1 (c .before .before .before .before .before .if3 .left))
 
 pub read-spec : {M : Type 1} → statement M
 read-spec =
@@ -75,10 +88,13 @@ read-spec =
     returns
     in-place-requires
     returns-2
-    rows-good-requires
+    blank-table-requires
+    slice-aggregate-take-rows
+    take-rows-requires
     returns-3
-    slice-relend-prefix-load
-    slice-aggregate-load
-    load-requires
+    slice-aggregate-copy
+    slice-relend-prefix-copy
+    slice-aggregate-copy-2
+    copy-requires
     same-length
     returns-4)
