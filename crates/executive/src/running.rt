@@ -1,4 +1,4 @@
-// A run over a list of choices, from the start state of a good table.
+// Choices taken one after another: on from the words of a state as they stand, and a run from the start state.
 use crate::Ran;
 use crate::registers::load_registers;
 use crate::registers::store_registers;
@@ -12,14 +12,14 @@ ghost use lib.ListN.{length};
 ghost use Rattle.tables.specs.Layout.{tableWords};
 ghost use Rattle.tables.specs.Table.{goodTable};
 ghost use Rattle.executive.specs.State.{startWords, stateWords};
+ghost use Rattle.executive.specs.Fit.{fits};
 ghost use Rattle.executive.specs.Run.{ended, runFrom};
 
-// The registers stand in a local until the run ends: the state's own are stored then.
-pub fn run_choices(table: &[u32], state: &mut [u32], choices: &[u32]) -> Ran
-    requires { ⌜ (length (now table) ≡ tableWords) × (length (now state) ≡ stateWords) × (goodTable (now table) ≡ true) × (length (now choices) % 2 ≡ 0) ⌝ }
-    ensures { λ r. ⌜ ended (r .reply) (r .count) (now (state .exit)) ≡ runFrom (now (table .entry)) (startWords (now (table .entry))) 0 (now (choices .entry)) ⌝ }
+// The registers stand in a local until the choices end: the state's own are stored then.
+pub fn take_choices(table: &[u32], state: &mut [u32], choices: &[u32]) -> Ran
+    requires { ⌜ (length (now table) ≡ tableWords) × (length (now state) ≡ stateWords) × (goodTable (now table) ≡ true) × (length (now choices) % 2 ≡ 0) × (fits (now table) (now state) ≡ true) ⌝ }
+    ensures { λ r. ⌜ ended (r .reply) (r .count) (now (state .exit)) ≡ runFrom (now (table .entry)) (now (state .entry)) 0 (now (choices .entry)) ⌝ }
 {
-    put_start(table, state);
     let mut regs = load_registers(state);
     let mut count: u32 = 0;
     let mut i = 0;
@@ -44,4 +44,13 @@ pub fn run_choices(table: &[u32], state: &mut [u32], choices: &[u32]) -> Ran
         reply: ACCEPTED,
         count,
     }
+}
+
+// The choices from the start state.
+pub fn run_choices(table: &[u32], state: &mut [u32], choices: &[u32]) -> Ran
+    requires { ⌜ (length (now table) ≡ tableWords) × (length (now state) ≡ stateWords) × (goodTable (now table) ≡ true) × (length (now choices) % 2 ≡ 0) ⌝ }
+    ensures { λ r. ⌜ ended (r .reply) (r .count) (now (state .exit)) ≡ runFrom (now (table .entry)) (startWords (now (table .entry))) 0 (now (choices .entry)) ⌝ }
+{
+    put_start(table, state);
+    take_choices(table, state, choices)
 }

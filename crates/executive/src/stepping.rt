@@ -4,8 +4,6 @@ use crate::Chosen;
 use crate::deadlines::deadline;
 use crate::deadlines::is_stuck;
 use crate::messages::find_best;
-use crate::registers::load_registers;
-use crate::registers::store_registers;
 use tables::Family;
 use tables::Row;
 use tables::replies::ACCEPTED;
@@ -28,7 +26,7 @@ ghost use Rattle.executive.specs.State.{pool, posPlace, stateWords};
 ghost use Rattle.executive.specs.Messages.{best};
 ghost use Rattle.executive.specs.Effect.{after};
 ghost use Rattle.executive.specs.Step.{choiceReply, withSent};
-ghost use Rattle.executive.specs.Registers.{chosen, chooseInto, wordsAfter};
+ghost use Rattle.executive.specs.Registers.{chosen, chooseInto};
 
 // The reply to the choice of agent a at time t: 10 to 15, or 0.
 fn choice_reply(table: &[u32], state: &[u32], a: u32, t: u32) -> u32
@@ -116,21 +114,4 @@ pub fn choose(table: &[u32], state: &mut [u32], regs: [[u32; 4]; 16], a: u32, t:
     let agent = effect(table, state, s, r);
     put_choice(state, b, t, r, s, agent.pos);
     Chosen { reply, agent }
-}
-
-// One choice in the words of a state, the registers among them.
-pub fn step_once(table: &[u32], state: &mut [u32], a: u32, t: u32) -> u32
-    requires { ⌜ (length (now table) ≡ tableWords) × (length (now state) ≡ stateWords) × (goodTable (now table) ≡ true) ⌝ }
-    ensures { λ r. ⌜ (r ≡ choiceReply (now (table .entry)) (now (state .entry)) a t) × (now (state .exit) ≡ wordsAfter (now (table .entry)) (now (state .entry)) a t) ⌝ }
-{
-    let mut regs = load_registers(state);
-    let q = choose(table, state, regs, a, t);
-    if q.reply != ACCEPTED {
-        return q.reply;
-    }
-    let agent = q.agent;
-    let own = agent.regs;
-    regs[a as usize] = own;
-    store_registers(state, regs);
-    ACCEPTED
 }
