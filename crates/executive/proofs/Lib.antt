@@ -22,3 +22,4 @@ pub mod Front
 pub mod Outcomes
 pub mod RunOn
 pub mod Marks
+pub mod Looking
