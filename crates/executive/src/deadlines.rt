@@ -23,14 +23,14 @@ fn deadline_of(table: &[u32], state: &[u32], b: usize) -> u32
     table[81 + 4 * (32 * b + p) + 3]
 }
 
-// The least late of the unfinished agents' current rows; the greatest number where all have ended.
+// The least late of the unfinished agents' current rows; the greatest number where all have ended. An agent past the count has no row to run, and
+// a fixed number of turns is unrolled.
 pub fn deadline(table: &[u32], state: &[u32]) -> u32
     requires { ⌜ (length (now table) ≡ tableWords) × (length (now state) ≡ stateWords) × (goodTable (now table) ≡ true) ⌝ }
     ensures { λ d. ⌜ ((t : ℕ) → t < 2 ^ 32 → inTime (now (table .entry)) (now (state .entry)) t ≡ leb t d) ⌝ }
 {
-    let n = table[0] as usize;
     let mut d = 4294967295;
-    for b in 0..n {
+    for b in 0..16 {
         let late = deadline_of(table, state, b);
         if late < d {
             d = late;
