@@ -49,7 +49,7 @@ pub fn choice_reply(table: &[u32], state: &[u32], a: u32, t: u32) -> u32
         return BEFORE_EARLY;
     }
     let d = deadline(table, state);
-    if is_stuck(table, state, d) {
+    if is_stuck(table, state, b, d) {
         return STUCK;
     }
     if d < t {
