@@ -240,3 +240,12 @@ module _ (tb st : List ℕ) (g : List (List ℕ)) (long : length st ≡ 1105) (f
         let fw : ws ≡ withSent (set (set st 0 t) (posPlace a) (moved st g long a low four tb t .pos)) a (row tb a (pos st a)) s =
         ew ∙ ap₂ (λ (x : Row) (y : Agent). withSent (set (set st 0 t) (posPlace a) (y .pos)) a x s) er fq in
         ap (λ (k : ℕ). chosen k q ws) en ∙ ap₂ (chosen 0) fq fw ∙ accepts h
+
+    -- the same, where the agent's registers are o
+    pub acted : (o : List ℕ) → getD g a [] ≡ o → (r : Row) (q : Agent) (ws : List ℕ) → choiceReply tb st a t ≡ 0 → r ≡ row tb a (pos st a)
+        → q ≡ after r (best tb (pool st) r) (record { pos = pos st a; regs = o })
+        → ws ≡ withSent (set (set st 0 t) (posPlace a) (q .pos)) a r (record { pos = pos st a; regs = o }) → chosen 0 q ws ≡ chooseInto tb st g a t
+    acted o k r q ws h er eq ew =
+        made 0 r q ws h refl er
+        (eq ∙ ap (λ (l : List ℕ). after r (best tb (pool st) r) (record { pos = pos st a; regs = l })) (sym k))
+        (ew ∙ ap (λ (l : List ℕ). withSent (set (set st 0 t) (posPlace a) (q .pos)) a r (record { pos = pos st a; regs = l })) (sym k))

@@ -2,14 +2,16 @@
 use mathlib.Core.Path.{_≡_, refl, sym, _∙_}
 use mathlib.Core.Bool.{Bool, true, false, not, _&&_, _||_}
 use mathlib.Core.List.{List}
-use Prim.Native.Nat.{ℕ, _+_, _≤_, _<_, _^_, max}
-use native.Mathlib.Decide.{decLe}
+use Prim.Native.Nat.{ℕ, zero, suc, _+_, _≤_, _<_, _^_, max}
+use native.Mathlib.Decide.{decLe, ℕ-discrete}
 use native.Mathlib.Numerals.{add-one}
 use native.Mathlib.Omega.{arith}
 use lib.Dec.{leb}
 use borrow.Author.Tests.{le-leb, lt-leb, le-ltb, lt-ltb}
 use Rattle.tables.specs.Basics.{allBelow}
-use Rattle.tables.specs.Layout.{rows, row}
+use Rattle.tables.specs.Layout.{agents, rows, row}
+use Rattle.tables.specs.Table.{goodTable}
+use Rattle.tables.proofs.Good.{few, few-rows, no-count}
 use Rattle.executive.specs.State.{clock, pos}
 use Rattle.executive.specs.Fit.{unfinished, current, inTime}
 use Rattle.executive.specs.Step.{canGo}
@@ -18,6 +20,20 @@ use Rattle.executive.specs.Step.{canGo}
 pub below-suc : (n : ℕ) (f : ℕ → Bool) → allBelow (n + 1) f ≡ (allBelow n f && f n)
 unfolding allBelow
 below-suc n f = rw (add-one n)
+
+-- a test that holds from n on
+pub below-more : (n m : ℕ) (f : ℕ → Bool) → n ≤ m → ((b : ℕ) → n ≤ b → b < m → f b ≡ true) → allBelow m f ≡ allBelow n f
+unfolding allBelow
+below-more n zero f h k = let e : n ≡ 0 = omega arith in rw e
+below-more n (suc m) f h k = go (ℕ-discrete n (suc m)) (λ l. below-more n m f l (λ b u v. k b u (omega arith)))
+  where
+    and-yes : (x y : Bool) → y ≡ true → (x && y) ≡ x
+    and-yes true y e = e
+    and-yes false y e = refl
+
+    go : Dec (n ≡ suc m) → (n ≤ m → allBelow m f ≡ allBelow n f) → allBelow (suc m) f ≡ allBelow n f
+    go (yes e) rest = rw e
+    go (no d) rest = and-yes (allBelow m f) (f m) (k m (omega arith) (omega arith)) ∙ rest (omega arith)
 
 -- two tests of one answer
 same-leb : (a b d e : ℕ) → (a ≤ b → d ≤ e) → (d ≤ e → a ≤ b) → leb a b ≡ leb d e
@@ -60,6 +76,10 @@ module _ (tb st : List ℕ) (b : ℕ) where
   unfolding unfinished
   ended-limit h t w = rw (le-ltb (pos st b) (rows tb b) h) (no-limit t w)
 
+  pub ended-free : rows tb b ≤ pos st b → (t : ℕ) → (not (unfinished tb st b) || leb t (current tb st b .late)) ≡ true
+  unfolding unfinished
+  ended-free h t = rw (le-ltb (pos st b) (rows tb b) h)
+
   pub row-limit : pos st b < rows tb b → (t : ℕ) → (not (unfinished tb st b) || leb t (current tb st b .late)) ≡ leb t (current tb st b .late)
   unfolding unfinished
   row-limit h t = rw (lt-ltb (pos st b) (rows tb b) h)
@@ -80,3 +100,19 @@ module _ (tb st : List ℕ) (b : ℕ) where
 
     pub early-goes : clock st ≤ d → canGo tb st b ≡ leb (current tb st b .early) d
     early-goes h = goes ∙ same-leb (max (clock st) (current tb st b .early)) d (current tb st b .early) d (λ l. omega arith) (λ l. omega arith)
+
+-- ---- all 16 places of agents
+
+module _ (tb : List ℕ) (good : goodTable tb ≡ true) where
+  pub short : (b : ℕ) → b < 16 → rows tb b ≤ 32
+  short b h = go (decLe (agents tb) b)
+    where
+      go : Dec (agents tb ≤ b) → rows tb b ≤ 32
+      go (yes l) = omega (arith, no-count tb good b l h)
+      go (no n) = few-rows tb good b (omega arith)
+
+  -- an agent past the count has ended, so all 16 set the deadline
+  pub in-time-16 : (st : List ℕ) (t : ℕ) → inTime tb st t ≡ allBelow 16 (λ b. not (unfinished tb st b) || leb t (current tb st b .late))
+  unfolding inTime
+  in-time-16 st t =
+      sym (below-more (agents tb) 16 (λ b. not (unfinished tb st b) || leb t (current tb st b .late)) (few tb good) (λ b l h. ended-free tb st b (omega (arith, no-count tb good b l h)) t))

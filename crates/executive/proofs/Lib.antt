@@ -18,8 +18,8 @@ pub mod Effects
 pub mod Deadline
 pub mod Around
 pub mod Choosing
-pub mod Grids
 pub mod Front
 pub mod Outcomes
 pub mod RunOn
 pub mod Marks
+pub mod Looking

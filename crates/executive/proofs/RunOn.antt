@@ -1,22 +1,25 @@
 -- A run worked out with the registers beside the state: what one choice makes of what is left to run. Assumes nothing.
 use mathlib.Core.Path.{_≡_, refl, sym, ap, ap₂, _∙_}
-use mathlib.Core.Bool.{true}
+use mathlib.Core.Bool.{true, cond}
 use mathlib.Core.List.{List, [], _∷_}
 use Prim.Native.Nat.{ℕ, zero, suc, _+_, _-_, _/_, _%_, _≤_, _<_}
 use native.Mathlib.Decide.{ℕ-discrete}
 use native.Mathlib.Omega.{arith}
 use borrow.Author.Tests.{eq-eqb, ne-eqb}
+use lib.Dec.{eqb}
 use lib.ListN.{length, take, drop, getD, set, length-take, length-drop, length-set, drop-of-length-le}
 use lib.Seq.{drop-cons, getD-set-same, getD-set-other, ext-getD}
 use Rattle.tables.specs.Table.{goodTable}
 use Rattle.executive.specs.declared.Agent.{Agent}
-use Rattle.executive.specs.State.{agentAt, startWords, regPlace}
+use Rattle.executive.specs.State.{agentAt, regPlace}
+use Rattle.executive.specs.Fit.{fits}
 use Rattle.executive.specs.Step.{choiceReply, accepted}
 use Rattle.executive.specs.Registers.{around, listed, register, withRegs, ChoiceOutcome, chosen, chooseInto, wordsAfter}
 use Rattle.executive.specs.Run.{RunOutcome, ended, runFrom}
 use Rattle.executive.proofs.Lists.{getD-part}
 use Rattle.executive.proofs.After.{accepted-length, accepted-other}
-use Rattle.executive.proofs.Runs.{run-go, run-stop, count-from-start}
+use Rattle.executive.proofs.Fitting.{fits-says}
+use Rattle.executive.proofs.Runs.{run-go, run-stop, count-within}
 use Rattle.executive.proofs.Around.{listed-length, listed-at, around-length, around-own, around-around}
 use Rattle.executive.proofs.Choosing.{whole-length, whole-register, by-reply, chosen-low}
 
@@ -124,20 +127,23 @@ module _ (tb st : List ℕ) (g : List (List ℕ)) (a t : ℕ) where
       pub accepted-run : (n : ℕ) (cs : List ℕ) → runFrom tb (withRegs st g) n (a ∷ t ∷ cs) ≡ runFrom tb (withRegs ws (set g a (q .regs))) (n + 1) cs
       accepted-run n cs = run-go tb (withRegs st g) n a t cs (chosen-reply ∙ z) ∙ ap (λ (l : List ℕ). runFrom tb l (n + 1) cs) (sym whole-after)
 
--- ---- one step, the registers put back at once
+-- ---- one choice alone
 
-module _ (tb st : List ℕ) (g : List (List ℕ)) (a t r : ℕ) (q : Agent) (ws : List ℕ) (loaded : withRegs st g ≡ st) (e : chosen r q ws ≡ chooseInto tb st g a t) where
-  pub step-reply : r ≡ choiceReply tb st a t
-  step-reply = sym (chosen-reply tb st g a t r q ws e) ∙ ap (λ (l : List ℕ). choiceReply tb l a t) loaded
+module _ (tb st : List ℕ) (a t : ℕ) where
+  pub alone-reply : runFrom tb st 0 (a ∷ t ∷ []) .reply ≡ choiceReply tb st a t
+  alone-reply = go (choiceReply tb st a t) refl
+    where
+      go : (r : ℕ) → choiceReply tb st a t ≡ r → runFrom tb st 0 (a ∷ t ∷ []) .reply ≡ r
+      go zero h = ap (λ (o : RunOutcome). o .reply) (run-go tb st 0 a t [] h ∙ none-left [] 0 tb (accepted tb st a t) 1 (omega arith))
+      go (suc r) h = ap (λ (o : RunOutcome). o .reply) (run-stop tb st 0 a t [] r h)
 
-  pub step-refused : (r ≡ 0 → ⊥) → ws ≡ wordsAfter tb st a t
+  pub alone-words : runFrom tb st 0 (a ∷ t ∷ []) .state ≡ wordsAfter tb st a t
   unfolding wordsAfter
-  step-refused k = rw (← step-reply, ne-eqb r 0 k) (refused-words tb st g a t r q ws e k)
-
-  pub step-accepted : r ≡ 0 → length st ≡ 1105 → length g ≡ 16 → a < 16 → withRegs ws (set g a (q .regs)) ≡ wordsAfter tb st a t
-  unfolding wordsAfter
-  step-accepted z long wide low =
-      rw (← step-reply, eq-eqb r 0 z) (whole-after tb st g a t r q ws e z long wide low ∙ ap (λ (l : List ℕ). accepted tb l a t) loaded)
+  alone-words = go (choiceReply tb st a t) refl
+    where
+      go : (r : ℕ) → choiceReply tb st a t ≡ r → runFrom tb st 0 (a ∷ t ∷ []) .state ≡ cond (eqb (choiceReply tb st a t) 0) (accepted tb st a t) st
+      go zero h = ap (λ (o : RunOutcome). o .state) (run-go tb st 0 a t [] h ∙ none-left [] 0 tb (accepted tb st a t) 1 (omega arith)) ∙ rw (eq-eqb (choiceReply tb st a t) 0 h)
+      go (suc r) h = ap (λ (o : RunOutcome). o .state) (run-stop tb st 0 a t [] r h) ∙ rw (ne-eqb (choiceReply tb st a t) 0 (λ z. absurd (omega arith)))
 
 -- ---- the count is at most 512
 
@@ -151,26 +157,26 @@ count-least tb st n (a ∷ t ∷ cs) = go (choiceReply tb st a t) refl (count-le
     go zero h l = let e = ap (λ (o : RunOutcome). o .count) (run-go tb st n a t cs h) in omega arith
     go (suc r) h l = let e = ap (λ (o : RunOutcome). o .count) (run-stop tb st n a t cs r h) in omega arith
 
-pub count-bound : (tb : List ℕ) → goodTable tb ≡ true → length tb ≡ 2129 → (cs st ds : List ℕ) (n : ℕ)
-    → runFrom tb st n ds ≡ runFrom tb (startWords tb) 0 cs → n ≤ 512
-count-bound tb good long cs st ds n e =
-    let b = count-from-start tb good long cs in
+pub count-bound : (tb : List ℕ) → goodTable tb ≡ true → (from : List ℕ) → length from ≡ 1105 → fits tb from ≡ true → (cs st ds : List ℕ) (n : ℕ)
+    → runFrom tb st n ds ≡ runFrom tb from 0 cs → n ≤ 512
+count-bound tb good from long fit cs st ds n e =
+    let b = count-within tb good from 0 cs long (fits-says tb from fit) in
     let l = count-least tb st n ds in
     let q = ap (λ (o : RunOutcome). o .count) e in
     omega arith
 
 -- ---- one turn of the loop over the choices cs
 
--- n are accepted, i words of cs are read, and what is left of them, from the words st with the registers g, ends as the whole run does
-pub record Left (tb cs st : List ℕ) (g : List (List ℕ)) (n i : ℕ) : Type 0 where
+-- n are accepted, i words of cs are read, and what is left of them, from the words st with the registers g, ends as all of them do from the words `from`
+pub record Left (tb from cs st : List ℕ) (g : List (List ℕ)) (n i : ℕ) : Type 0 where
   pub read : i ≤ length cs
   pub even : i % 2 ≡ 0
   pub long : length st ≡ 1105
   pub wide : length g ≡ 16
-  pub ends : runFrom tb (withRegs st g) n (drop i cs) ≡ runFrom tb (startWords tb) 0 cs
+  pub ends : runFrom tb (withRegs st g) n (drop i cs) ≡ runFrom tb from 0 cs
 
-module _ (tb : List ℕ) (good : goodTable tb ≡ true) (long-tb : length tb ≡ 2129) (cs : List ℕ) (pairs : length cs % 2 ≡ 0)
-    (st : List ℕ) (g : List (List ℕ)) (n i : ℕ) (l : Left tb cs st g n i) (more : i < length cs)
+module _ (tb : List ℕ) (good : goodTable tb ≡ true) (from : List ℕ) (long-from : length from ≡ 1105) (fit : fits tb from ≡ true) (cs : List ℕ) (pairs : length cs % 2 ≡ 0)
+    (st : List ℕ) (g : List (List ℕ)) (n i : ℕ) (l : Left tb from cs st g n i) (more : i < length cs)
     (r : ℕ) (q : Agent) (ws : List ℕ) (e : chosen r q ws ≡ chooseInto tb st g (getD cs i 0) (getD cs (i + 1) 0)) where
   abbrev a : ℕ
   a = getD cs i 0
@@ -181,23 +187,23 @@ module _ (tb : List ℕ) (good : goodTable tb ≡ true) (long-tb : length tb ≡
   two-left : i + 1 < length cs
   two-left = let v = l .even in omega arith
 
-  from-here : runFrom tb (withRegs st g) n (a ∷ t ∷ drop (i + 2) cs) ≡ runFrom tb (startWords tb) 0 cs
+  from-here : runFrom tb (withRegs st g) n (a ∷ t ∷ drop (i + 2) cs) ≡ runFrom tb from 0 cs
   from-here = ap (runFrom tb (withRegs st g) n) (sym (two cs i two-left)) ∙ l .ends
 
-  pub turn-ends : (r ≡ 0 → ⊥) → ended r n (withRegs ws g) ≡ runFrom tb (startWords tb) 0 cs
+  pub turn-ends : (r ≡ 0 → ⊥) → ended r n (withRegs ws g) ≡ runFrom tb from 0 cs
   turn-ends k = sym (refused-run tb st g a t r q ws e n (drop (i + 2) cs) k) ∙ from-here
 
   module _ (z : r ≡ 0) where
     pub turn-low : a < 16
     turn-low = chosen-low tb (withRegs st g) good a t (chosen-reply tb st g a t r q ws e ∙ z)
 
-    next-ends : runFrom tb (withRegs ws (set g a (q .regs))) (n + 1) (drop (i + 2) cs) ≡ runFrom tb (startWords tb) 0 cs
+    next-ends : runFrom tb (withRegs ws (set g a (q .regs))) (n + 1) (drop (i + 2) cs) ≡ runFrom tb from 0 cs
     next-ends = sym (accepted-run tb st g a t r q ws e z (l .long) (l .wide) turn-low n (drop (i + 2) cs)) ∙ from-here
 
     pub turn-count : n + 1 ≤ 512
-    turn-count = count-bound tb good long-tb cs (withRegs ws (set g a (q .regs))) (drop (i + 2) cs) (n + 1) next-ends
+    turn-count = count-bound tb good from long-from fit cs (withRegs ws (set g a (q .regs))) (drop (i + 2) cs) (n + 1) next-ends
 
-    pub turn-goes : Left tb cs ws (set g a (q .regs)) (n + 1) (i + 2)
+    pub turn-goes : Left tb from cs ws (set g a (q .regs)) (n + 1) (i + 2)
     turn-goes =
         record {
           read = let h = two-left in omega arith;

@@ -2,8 +2,8 @@
 use crate::Ran;
 use crate::checking::state_fits;
 use crate::running::run_choices;
+use crate::running::take_choices;
 use crate::starting::put_start;
-use crate::stepping::step_once;
 use tables::checking::table_is_good;
 use tables::replies::ACCEPTED;
 use tables::replies::BAD_STATE;
@@ -47,7 +47,9 @@ pub fn step(table: &[u32], state: &mut [u32], agent: u32, time: u32) -> u32
     if !state_fits(tb, &state[..1105]) {
         return BAD_STATE;
     }
-    step_once(tb, &mut state[..1105], agent, time)
+    let choice = [agent, time];
+    let q = take_choices(tb, &mut state[..1105], &choice);
+    q.reply
 }
 
 // Replies 1, 16 or 8 and a count of 0; or it starts, takes the choices up to the first refusal, and replies with that and the count of accepted steps.

@@ -4,7 +4,7 @@ ghost use mathlib.Core.Bool.{true, not, _||_};
 ghost use Prim.Native.Nat.{ℕ, _≤_, _<_, _^_};
 ghost use lib.Dec.{leb};
 ghost use lib.ListN.{length};
-ghost use Rattle.tables.specs.Layout.{rows, tableWords};
+ghost use Rattle.tables.specs.Layout.{agents, rows, tableWords};
 ghost use Rattle.tables.specs.Table.{goodTable};
 ghost use Rattle.executive.specs.State.{stateWords};
 ghost use Rattle.executive.specs.Fit.{unfinished, current, inTime};
@@ -23,14 +23,14 @@ fn deadline_of(table: &[u32], state: &[u32], b: usize) -> u32
     table[81 + 4 * (32 * b + p) + 3]
 }
 
-// The least late of the unfinished agents' current rows; the greatest number where all have ended.
+// The least late of the unfinished agents' current rows; the greatest number where all have ended. An agent past the count has no row to run, and
+// a fixed number of turns is unrolled.
 pub fn deadline(table: &[u32], state: &[u32]) -> u32
     requires { ⌜ (length (now table) ≡ tableWords) × (length (now state) ≡ stateWords) × (goodTable (now table) ≡ true) ⌝ }
     ensures { λ d. ⌜ ((t : ℕ) → t < 2 ^ 32 → inTime (now (table .entry)) (now (state .entry)) t ≡ leb t d) ⌝ }
 {
-    let n = table[0] as usize;
     let mut d = 4294967295;
-    for b in 0..n {
+    for b in 0..16 {
         let late = deadline_of(table, state, b);
         if late < d {
             d = late;
@@ -55,12 +55,15 @@ fn can_go(table: &[u32], state: &[u32], b: usize, d: u32) -> bool
     table[81 + 4 * (32 * b + p) + 2] <= d
 }
 
-// Whether no agent can go, where d is the deadline.
-pub fn is_stuck(table: &[u32], state: &[u32], d: u32) -> bool
-    requires { ⌜ (length (now table) ≡ tableWords) × (length (now state) ≡ stateWords) × (goodTable (now table) ≡ true) ⌝ }
+// Whether no agent can go, where d is the deadline: agent a, which is chosen, is tried first.
+pub fn is_stuck(table: &[u32], state: &[u32], a: usize, d: u32) -> bool
+    requires { ⌜ (length (now table) ≡ tableWords) × (length (now state) ≡ stateWords) × (goodTable (now table) ≡ true) × (a < agents (now table)) ⌝ }
     requires { ⌜ ((t : ℕ) → t < 2 ^ 32 → inTime (now table) (now state) t ≡ leb t d) ⌝ }
     ensures { λ r. ⌜ r ≡ stuck (now (table .entry)) (now (state .entry)) ⌝ }
 {
+    if can_go(table, state, a, d) {
+        return false;
+    }
     let n = table[0] as usize;
     for b in 0..n {
         if can_go(table, state, b, d) {

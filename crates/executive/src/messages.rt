@@ -2,10 +2,12 @@
 use crate::Best;
 use tables::Row;
 ghost use mathlib.Core.Path.{_≡_};
+ghost use mathlib.Core.Bool.{_&&_};
 ghost use Prim.Native.Nat.{_≤_, _<_};
 ghost use lib.ListN.{length};
 ghost use Rattle.tables.specs.Layout.{agents, row, tableWords};
-ghost use Rattle.executive.specs.State.{pool, stateWords};
+ghost use Rattle.executive.specs.State.{pool, value, stateWords};
+ghost use Rattle.executive.specs.declared.Best.the-variants.{Message};
 ghost use Rattle.executive.specs.Messages as Messages;
 
 // Whether the message of row i of agent b is visible to the row r: only the two windows count, not the clock.
@@ -52,21 +54,26 @@ fn goes_before(l: u32, b: usize, i: usize, m: Best) -> bool
     }
 }
 
-// The best so far, once row i of agent b is looked at too.
-fn look(table: &[u32], state: &[u32], r: Row, b: usize, i: usize, m: Best) -> Best
+// Whether the message of row i of agent b is visible to the row r, and goes before the best so far.
+fn is_better(table: &[u32], state: &[u32], r: Row, b: usize, i: usize, m: Best) -> bool
     requires { ⌜ (tableWords ≤ length (now table)) × (stateWords ≤ length (now state)) × (b < 16) × (i < 32) ⌝ }
-    ensures { λ q. ⌜ q ≡ Messages.look (now (table .entry)) (pool (now (state .entry))) r b i m ⌝ }
+    ensures { λ q. ⌜ q ≡ (Messages.visible (now (table .entry)) (pool (now (state .entry))) r b i && Messages.beats (row (now (table .entry)) b i .late) b i m) ⌝ }
+{
+    if !is_visible(table, state, r, b, i) {
+        return false;
+    }
+    let p = 32 * b + i;
+    goes_before(table[81 + 4 * p + 3], b, i, m)
+}
+
+// The message of row i of agent b.
+fn message_at(table: &[u32], state: &[u32], b: usize, i: usize) -> Best
+    requires { ⌜ (tableWords ≤ length (now table)) × (stateWords ≤ length (now state)) × (b < 16) × (i < 32) ⌝ }
+    ensures { λ q. ⌜ q ≡ Message (row (now (table .entry)) b i .late) b i (value (now (state .entry)) b i) ⌝ }
 {
     let p = 32 * b + i;
-    let late = table[81 + 4 * p + 3];
-    if !is_visible(table, state, r, b, i) {
-        return m;
-    }
-    if !goes_before(late, b, i, m) {
-        return m;
-    }
     Best::Message {
-        late,
+        late: table[81 + 4 * p + 3],
         agent: b,
         row: i,
         value: state[593 + p],
@@ -85,7 +92,9 @@ pub fn find_best(table: &[u32], state: &[u32], r: Row) -> Best
             if b == n {
                 break 'agents;
             }
-            m = look(table, state, r, b, i, m);
+            if is_better(table, state, r, b, i, m) {
+                m = message_at(table, state, b, i);
+            }
         }
     }
     m

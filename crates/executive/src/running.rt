@@ -1,9 +1,10 @@
-// A run over a list of choices, from the start state of a good table.
+// Choices taken one after another: on from the words of a state as they stand, and a run from the start state.
 use crate::Ran;
 use crate::registers::load_registers;
 use crate::registers::store_registers;
 use crate::starting::put_start;
-use crate::stepping::choose;
+use crate::stepping::act;
+use crate::stepping::choice_reply;
 use tables::replies::ACCEPTED;
 ghost use mathlib.Core.Path.{_≡_};
 ghost use mathlib.Core.Bool.{true};
@@ -12,36 +13,54 @@ ghost use lib.ListN.{length};
 ghost use Rattle.tables.specs.Layout.{tableWords};
 ghost use Rattle.tables.specs.Table.{goodTable};
 ghost use Rattle.executive.specs.State.{startWords, stateWords};
+ghost use Rattle.executive.specs.Fit.{fits};
+ghost use Rattle.executive.specs.Registers.{withRegs};
 ghost use Rattle.executive.specs.Run.{ended, runFrom};
 
-// The registers stand in a local until the run ends: the state's own are stored then.
+// From the state's words with the registers regs, which stand in a local until the choices end: the state's own are stored then.
+fn work_out(table: &[u32], state: &mut [u32], regs: [[u32; 4]; 16], choices: &[u32]) -> Ran
+    requires { ⌜ (length (now table) ≡ tableWords) × (length (now state) ≡ stateWords) × (goodTable (now table) ≡ true) × (length (now choices) % 2 ≡ 0) × (fits (now table) (withRegs (now state) regs) ≡ true) ⌝ }
+    ensures { λ r. ⌜ ended (r .reply) (r .count) (now (state .exit)) ≡ runFrom (now (table .entry)) (withRegs (now (state .entry)) regs) 0 (now (choices .entry)) ⌝ }
+{
+    let mut all = regs;
+    let mut count: u32 = 0;
+    let mut i = 0;
+    while i < choices.len() {
+        let a = choices[i];
+        let t = choices[i + 1];
+        let reply = choice_reply(table, state, a, t);
+        if reply != ACCEPTED {
+            store_registers(state, all);
+            return Ran { reply, count };
+        }
+        let b = a as usize;
+        let own = all[b];
+        let agent = act(table, state, b, t, own);
+        let new = agent.regs;
+        all[b] = new;
+        count += 1;
+        i += 2;
+    }
+    store_registers(state, all);
+    Ran {
+        reply: ACCEPTED,
+        count,
+    }
+}
+
+// On from the words of a state as they stand.
+pub fn take_choices(table: &[u32], state: &mut [u32], choices: &[u32]) -> Ran
+    requires { ⌜ (length (now table) ≡ tableWords) × (length (now state) ≡ stateWords) × (goodTable (now table) ≡ true) × (length (now choices) % 2 ≡ 0) × (fits (now table) (now state) ≡ true) ⌝ }
+    ensures { λ r. ⌜ ended (r .reply) (r .count) (now (state .exit)) ≡ runFrom (now (table .entry)) (now (state .entry)) 0 (now (choices .entry)) ⌝ }
+{
+    work_out(table, state, load_registers(state), choices)
+}
+
+// The choices from the start state.
 pub fn run_choices(table: &[u32], state: &mut [u32], choices: &[u32]) -> Ran
     requires { ⌜ (length (now table) ≡ tableWords) × (length (now state) ≡ stateWords) × (goodTable (now table) ≡ true) × (length (now choices) % 2 ≡ 0) ⌝ }
     ensures { λ r. ⌜ ended (r .reply) (r .count) (now (state .exit)) ≡ runFrom (now (table .entry)) (startWords (now (table .entry))) 0 (now (choices .entry)) ⌝ }
 {
     put_start(table, state);
-    let mut regs = load_registers(state);
-    let mut count: u32 = 0;
-    let mut i = 0;
-    while i < choices.len() {
-        let a = choices[i];
-        let q = choose(table, state, regs, a, choices[i + 1]);
-        if q.reply != ACCEPTED {
-            store_registers(state, regs);
-            return Ran {
-                reply: q.reply,
-                count,
-            };
-        }
-        let agent = q.agent;
-        let own = agent.regs;
-        regs[a as usize] = own;
-        count += 1;
-        i += 2;
-    }
-    store_registers(state, regs);
-    Ran {
-        reply: ACCEPTED,
-        count,
-    }
+    take_choices(table, state, choices)
 }

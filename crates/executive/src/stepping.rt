@@ -4,8 +4,6 @@ use crate::Chosen;
 use crate::deadlines::deadline;
 use crate::deadlines::is_stuck;
 use crate::messages::find_best;
-use crate::registers::load_registers;
-use crate::registers::store_registers;
 use tables::Family;
 use tables::Row;
 use tables::replies::ACCEPTED;
@@ -19,8 +17,9 @@ use tables::rows::family_of;
 use tables::rows::row_at;
 ghost use mathlib.Core.Path.{_≡_};
 ghost use mathlib.Core.Bool.{true};
-ghost use Prim.Native.Nat.{_≤_, _<_};
-ghost use lib.ListN.{length, set};
+ghost use mathlib.Core.List.{List, []};
+ghost use Prim.Native.Nat.{ℕ, _≤_, _<_};
+ghost use lib.ListN.{length, getD, set};
 ghost use Rattle.tables.specs.Layout.{agents, tableWords};
 ghost use Rattle.tables.specs.Rows.{wellFormed};
 ghost use Rattle.tables.specs.Table.{goodTable};
@@ -28,10 +27,10 @@ ghost use Rattle.executive.specs.State.{pool, posPlace, stateWords};
 ghost use Rattle.executive.specs.Messages.{best};
 ghost use Rattle.executive.specs.Effect.{after};
 ghost use Rattle.executive.specs.Step.{choiceReply, withSent};
-ghost use Rattle.executive.specs.Registers.{chosen, chooseInto, wordsAfter};
+ghost use Rattle.executive.specs.Registers.{chosen, chooseInto};
 
 // The reply to the choice of agent a at time t: 10 to 15, or 0.
-fn choice_reply(table: &[u32], state: &[u32], a: u32, t: u32) -> u32
+pub fn choice_reply(table: &[u32], state: &[u32], a: u32, t: u32) -> u32
     requires { ⌜ (length (now table) ≡ tableWords) × (length (now state) ≡ stateWords) × (goodTable (now table) ≡ true) ⌝ }
     ensures { λ r. ⌜ r ≡ choiceReply (now (table .entry)) (now (state .entry)) a t ⌝ }
 {
@@ -50,7 +49,7 @@ fn choice_reply(table: &[u32], state: &[u32], a: u32, t: u32) -> u32
         return BEFORE_EARLY;
     }
     let d = deadline(table, state);
-    if is_stuck(table, state, d) {
+    if is_stuck(table, state, b, d) {
         return STUCK;
     }
     if d < t {
@@ -91,7 +90,22 @@ fn put_choice(state: &mut [u32], a: usize, t: u32, r: Row, s: Agent, p: u32)
     state[593 + q] = regs[r.x as usize];
 }
 
-// The choice of agent a at time t, where the registers stand in regs: those among the state's words are neither read nor written.
+// The accepted choice of agent a at time t, where own are the agent's registers: those among the state's words are neither read nor written.
+pub fn act(table: &[u32], state: &mut [u32], a: usize, t: u32, own: [u32; 4]) -> Agent
+    requires { ⌜ (length (now table) ≡ tableWords) × (length (now state) ≡ stateWords) × (goodTable (now table) ≡ true) × (choiceReply (now table) (now state) a t ≡ 0) ⌝ }
+    ensures { λ q. ⌜ ((g : List (List ℕ)) → getD g a [] ≡ own → chosen 0 q (now (state .exit)) ≡ chooseInto (now (table .entry)) (now (state .entry)) g a t) ⌝ }
+{
+    let s = Agent {
+        pos: state[1 + a],
+        regs: own,
+    };
+    let r = row_at(table, a, s.pos as usize);
+    let agent = effect(table, state, s, r);
+    put_choice(state, a, t, r, s, agent.pos);
+    agent
+}
+
+// The choice of agent a at time t, where the registers stand in regs.
 pub fn choose(table: &[u32], state: &mut [u32], regs: [[u32; 4]; 16], a: u32, t: u32) -> Chosen
     requires { ⌜ (length (now table) ≡ tableWords) × (length (now state) ≡ stateWords) × (goodTable (now table) ≡ true) ⌝ }
     ensures { λ q. ⌜ chosen (q .reply) (q .agent) (now (state .exit)) ≡ chooseInto (now (table .entry)) (now (state .entry)) regs a t ⌝ }
@@ -108,29 +122,6 @@ pub fn choose(table: &[u32], state: &mut [u32], regs: [[u32; 4]; 16], a: u32, t:
     }
     let b = a as usize;
     let own = regs[b];
-    let s = Agent {
-        pos: state[1 + b],
-        regs: own,
-    };
-    let r = row_at(table, b, s.pos as usize);
-    let agent = effect(table, state, s, r);
-    put_choice(state, b, t, r, s, agent.pos);
+    let agent = act(table, state, b, t, own);
     Chosen { reply, agent }
-}
-
-// One choice in the words of a state, the registers among them.
-pub fn step_once(table: &[u32], state: &mut [u32], a: u32, t: u32) -> u32
-    requires { ⌜ (length (now table) ≡ tableWords) × (length (now state) ≡ stateWords) × (goodTable (now table) ≡ true) ⌝ }
-    ensures { λ r. ⌜ (r ≡ choiceReply (now (table .entry)) (now (state .entry)) a t) × (now (state .exit) ≡ wordsAfter (now (table .entry)) (now (state .entry)) a t) ⌝ }
-{
-    let mut regs = load_registers(state);
-    let q = choose(table, state, regs, a, t);
-    if q.reply != ACCEPTED {
-        return q.reply;
-    }
-    let agent = q.agent;
-    let own = agent.regs;
-    regs[a as usize] = own;
-    store_registers(state, regs);
-    ACCEPTED
 }

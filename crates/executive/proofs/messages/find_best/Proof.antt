@@ -1,5 +1,7 @@
 -- `find_best` meets its contract: the loops hold the best of the places looked at. Assumes nothing.
-use mathlib.Core.Path.{_≡_, refl, ap, _∙_}
+use mathlib.Core.Path.{_≡_, refl, sym, ap, _∙_}
+use mathlib.Core.Logic.{⊎-elim}
+use Rattle.executive.proofs.Looking.{look-better, look-stays}
 use borrow.Author.Needs.{needs}
 use native.Mathlib.Omega.{arith}
 use native.Mathlib.Numerals.{add-one}
@@ -37,8 +39,11 @@ loop-holds : tie.Need-loop-holds Inv-loop μ-loop Inv-agents μ-agents
 unfolding lookRows
 loop-holds c = (search needs, search needs, refl)
 
-look-requires : tie.Need-look-requires Inv-loop μ-loop Inv-agents μ-agents
-look-requires c κs = omega arith
+is-better-requires : tie.Need-is-better-requires Inv-loop μ-loop Inv-agents μ-agents
+is-better-requires c κs = omega arith
+
+message-at-requires : tie.Need-message-at-requires Inv-loop μ-loop Inv-agents μ-agents
+message-at-requires c κs = omega arith
 
 add-i : tie.Need-add-i Inv-loop μ-loop Inv-agents μ-agents
 add-i c = omega arith
@@ -49,12 +54,17 @@ loop-less c = omega arith
 loop-again : tie.Need-loop-again Inv-loop μ-loop Inv-agents μ-agents
 unfolding lookRows
 loop-again c =
-    let g = c .before .before .before .before .before .before .before .before .before .args in
-    let l = c .before .before .before .loop in
-    let b = c .before .before .before .before .before .agents .b in (
+    let g = c .before .before .before .before .before .before .before .before .before .before .args in
+    let l = c .before .before .before .before .loop in
+    let b = c .before .before .before .before .before .before .agents .b in
+    let looked : c .if2 .m ≡ look (g .table .now) (pool (g .state .now)) (g .r) b (l .i) (l .m) =
+    ⊎-elim
+    (λ u. u .2 ∙ u .1 .ensures ∙ look-better (g .table .now) (pool (g .state .now)) (g .r) b (l .i) (l .m) (sym (c .before .is-better .ensures) ∙ u .0 .taken))
+    (λ u. u .1 ∙ look-stays (g .table .now) (pool (g .state .now)) (g .r) b (l .i) (l .m) (sym (c .before .is-better .ensures) ∙ u .0 .left))
+    (c .if2 .came) in (
       omega arith,
       omega arith,
-      rw (add-one (l .i)) (c .look .ensures ∙ ap (look (g .table .now) (pool (g .state .now)) (g .r) b (l .i)) (l .inv .2)),
+      rw (add-one (l .i)) (looked ∙ ap (look (g .table .now) (pool (g .state .now)) (g .r) b (l .i)) (l .inv .2)),
     )
 
 add-b : tie.Need-add-b Inv-loop μ-loop Inv-agents μ-agents
@@ -99,7 +109,8 @@ find-best-spec =
     cast-n
     agents-holds
     loop-holds
-    look-requires
+    is-better-requires
+    message-at-requires
     add-i
     loop-less
     loop-again
