@@ -1,16 +1,10 @@
--- `is_better` meets its contract: the two tests in their order. Assumes nothing.
-use mathlib.Core.Path.{sym, _∙_}
-use borrow.Author.Tests.{not-true, not-false}
+-- `is_better` meets its contract: the tests in their order. Assumes nothing.
 use Rattle.tables.specs.Layout.{rowOf}
+use Rattle.executive.specs.State.{pool}
+use Rattle.executive.proofs.Looking.{too-late, too-low, not-sent, sent}
 use borrow.Author.Needs.{needs}
 use Rattle.executive.proofs.messages.is_better.Statement.{statement}
 use Rattle.executive.proofs.messages.is_better.Tie as tie
-
-is-visible-requires : tie.Need-is-visible-requires
-is-visible-requires c κs = search needs
-
-returns : tie.Need-returns
-returns c = rw (sym (c .before .is-visible .ensures) ∙ not-true _ (c .if1 .taken))
 
 mul-p : tie.Need-mul-p
 mul-p c = search needs
@@ -18,40 +12,81 @@ mul-p c = search needs
 add-p : tie.Need-add-p
 add-p c = search needs
 
-mul-goes-before : tie.Need-mul-goes-before
-mul-goes-before c = search needs
+mul-late : tie.Need-mul-late
+mul-late c = search needs
 
-add-goes-before : tie.Need-add-goes-before
-add-goes-before c = search needs
+add-late : tie.Need-add-late
+add-late c = search needs
 
-add-goes-before-2 : tie.Need-add-goes-before-2
-add-goes-before-2 c = search needs
+add-late-2 : tie.Need-add-late-2
+add-late-2 c = search needs
 
-mul-goes-before-2 : tie.Need-mul-goes-before-2
-mul-goes-before-2 c = search needs
+mul-late-2 : tie.Need-mul-late-2
+mul-late-2 c = search needs
 
-shared-slice-read-goes-before : tie.Need-shared-slice-read-goes-before
-shared-slice-read-goes-before c = search needs
+shared-slice-read-late : tie.Need-shared-slice-read-late
+shared-slice-read-late c = search needs
 
-goes-before-requires : tie.Need-goes-before-requires
-goes-before-requires c κs = search needs
+returns : tie.Need-returns
+unfolding rowOf
+returns c = let g = c .before .before .before .args in too-late (g .table .now) (pool (g .state .now)) (g .r) (g .b) (g .i) (g .least) (c .if1 .taken)
 
 returns-2 : tie.Need-returns-2
 unfolding rowOf
-returns-2 c = rw (sym (c .before .before .before .is-visible .ensures) ∙ not-false _ (c .before .before .if1 .left)) (c .goes-before .ensures)
+returns-2 c = let g = c .before .before .before .before .args in too-low (g .table .now) (pool (g .state .now)) (g .r) (g .b) (g .i) (g .least) (c .if2 .taken)
+
+add-if3 : tie.Need-add-if3
+add-if3 c = search needs
+
+mul-if3 : tie.Need-mul-if3
+mul-if3 c = search needs
+
+shared-slice-read-if3 : tie.Need-shared-slice-read-if3
+shared-slice-read-if3 c = search needs
+
+returns-3 : tie.Need-returns-3
+unfolding rowOf
+returns-3 c = let g = c .before .before .before .before .before .before .args in not-sent (g .table .now) (pool (g .state .now)) (g .r) (g .b) (g .i) (g .least) (c .if3 .taken)
+
+mul-result : tie.Need-mul-result
+mul-result c = search needs
+
+add-result : tie.Need-add-result
+add-result c = search needs
+
+add-result-2 : tie.Need-add-result-2
+add-result-2 c = search needs
+
+mul-result-2 : tie.Need-mul-result-2
+mul-result-2 c = search needs
+
+shared-slice-read-result : tie.Need-shared-slice-read-result
+shared-slice-read-result c = search needs
+
+returns-4 : tie.Need-returns-4
+unfolding rowOf
+returns-4 c = let g = c .before .before .before .before .before .before .before .before .args in sent (g .table .now) (pool (g .state .now)) (g .r) (g .b) (g .i) (g .least) (c .before .before .before .before .if2 .left) (c .before .before .before .before .before .if1 .left) (c .before .before .if3 .left)
 
 pub is-better-spec : {M : Type 1} → statement M
 is-better-spec =
     tie.close
     (tie.spec
-    is-visible-requires
-    returns
     mul-p
     add-p
-    mul-goes-before
-    add-goes-before
-    add-goes-before-2
-    mul-goes-before-2
-    shared-slice-read-goes-before
-    goes-before-requires
-    returns-2)
+    mul-late
+    add-late
+    add-late-2
+    mul-late-2
+    shared-slice-read-late
+    returns
+    returns-2
+    add-if3
+    mul-if3
+    shared-slice-read-if3
+    returns-3
+    mul-result
+    add-result
+    add-result-2
+    mul-result-2
+    shared-slice-read-result
+    returns-4)
