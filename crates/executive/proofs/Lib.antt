@@ -18,7 +18,6 @@ pub mod Effects
 pub mod Deadline
 pub mod Around
 pub mod Choosing
-pub mod Front
 pub mod Outcomes
 pub mod RunOn
 pub mod Marks

@@ -4,7 +4,7 @@ use mathlib.Core.List.{List, _∷_, _++_}
 use Prim.Native.Nat.{ℕ, zero, suc, _+_, _-_, _<_, _≤_}
 use native.Mathlib.Nat.{not-suc-le-zero}
 use native.Mathlib.Omega.{arith}
-use lib.ListN.{length, take, drop, getD, replicate, length-append, length-take, length-drop, List·getD-append}
+use lib.ListN.{length, set, take, drop, getD, replicate, length-append, length-take, length-drop, List·getD-append}
 use Rattle.executive.specs.State.{startWords}
 use Rattle.executive.proofs.Lists.{getD-right, getD-zeros, getD-part}
 
@@ -49,3 +49,8 @@ module _ (tb : List ℕ) (long : 2129 ≤ length tb) where
       getD-right one (regs tb ++ replicate 1024 0) i (omega arith)
       ∙ getD-right (regs tb) (replicate 1024 0) (i - 17) (omega (arith, regs-length))
       ∙ getD-zeros 1024 (i - 17 - length (regs tb))
+
+-- all words 0, then the clock, then the registers
+pub start-put : (tb s v : List ℕ) → s ≡ replicate 1105 0 → v ≡ regs tb → take 17 (set s 0 1) ++ (v ++ drop 64 (drop 17 (set s 0 1))) ≡ startWords tb
+unfolding startWords
+start-put tb s v e f = rw (e, f) refl

@@ -1,75 +1,74 @@
--- `put_start` meets its contract: the loop holds the words written from the front. Assumes nothing.
-use mathlib.Core.Path.{_≡_, refl, ap, _∙_}
+-- `put_start` meets its contract: all words 0, then the clock, then the registers. Assumes nothing.
+use mathlib.Core.Path.{_≡_, sym, ap, _∙_}
 use native.Mathlib.Omega.{arith}
 use mathlib.Core.List.{List}
-use Prim.Native.Nat.{ℕ, _-_, _≤_}
-use lib.ListN.{length, set, getD, length-set}
-use Rattle.executive.specs.State.{startWords}
-use Rattle.executive.proofs.Start.{start-length}
-use Rattle.executive.proofs.Front.{front, front-more, front-all}
+use Prim.Native.Nat.{ℕ}
+use lib.ListN.{length, set, replicate, length-set, length-replicate}
+use Rattle.executive.proofs.Start.{start-put, start-length}
+use borrow.Author.Needs.{needs}
 use Rattle.executive.proofs.starting.put_start.Statement.{statement}
 use Rattle.executive.proofs.starting.put_start.Tie as tie
 
-abbrev Inv-loop : tie.InvT-loop
-Inv-loop table state₀ i₀ state i = (i ≤ 1105) × (length state ≡ length state₀) × (state ≡ front (startWords table) i state₀)
+clear-requires : tie.Need-clear-requires
+clear-requires c κs = search needs
 
-abbrev μ-loop : tie.MeasureT-loop
-μ-loop table state₀ i₀ state i = 1105 - i
+slice-write-state : tie.Need-slice-write-state
+slice-write-state c = search needs
 
-loop-holds : tie.Need-loop-holds Inv-loop μ-loop
-loop-holds c = (omega arith, refl, refl)
+sub-copy : tie.Need-sub-copy
+sub-copy c = search needs
 
-start-word-requires : tie.Need-start-word-requires Inv-loop μ-loop
-start-word-requires c κs = omega arith
+part-copy-start : tie.Need-part-copy-start
+part-copy-start c = search needs
 
-mul-state : tie.Need-mul-state Inv-loop μ-loop
-mul-state c = omega arith
+part-copy-end : tie.Need-part-copy-end
+part-copy-end c = search needs
 
-slice-write-state : tie.Need-slice-write-state Inv-loop μ-loop
-slice-write-state c = omega arith
+sub-copy-2 : tie.Need-sub-copy-2
+sub-copy-2 c = search needs
 
-add-i : tie.Need-add-i Inv-loop μ-loop
-add-i c = omega arith
+part-copy-start-2 : tie.Need-part-copy-start-2
+part-copy-start-2 c = search needs
 
-loop-less : tie.Need-loop-less Inv-loop μ-loop
-loop-less c = omega arith
+part-copy-end-2 : tie.Need-part-copy-end-2
+part-copy-end-2 c =
+    let z = c .before .before .before .clear in
+    let g = c .before .before .before .before .before .before .before .args in
+    let n = ap length (z .ensures) ∙ length-replicate {A = ℕ} (length (g .state .now)) 0 in
+    let m = length-set (z .last .0) 0 1 in
+    omega arith
 
-loop-again : tie.Need-loop-again Inv-loop μ-loop
-loop-again c =
-    let g = c .before .before .before .before .before .args in
-    let w = startWords (g .table .now) in
-    let n = start-length (g .table .now) (omega arith) in
-    let l = c .before .before .loop in (
-      omega arith,
-      simp length-set (l .inv .1),
-      (ap (λ (v : ℕ). set (l .state) (l .i) v) (c .start-word .ensures)
-          ∙ ap (λ (x : List ℕ). set x (l .i) (getD w (l .i) 0)) (l .inv .2)
-          ∙ front-more w (l .i) (g .state .now) (omega arith) (omega arith)),
-    )
+copy-requires : tie.Need-copy-requires
+copy-requires c κs = search needs
 
-same-length : tie.Need-same-length Inv-loop μ-loop
-same-length c = c .before .loop .inv .1
+same-length : tie.Need-same-length
+same-length c =
+    let g = c .before .before .before .before .before .before .before .before .before .before .before in
+    let z = c .before .before .before .before .before .before .before .clear in
+    let k = c .before .before .copy in
+    ap length (start-put (g .args .table .now) (z .last .0) (k .last .1 .0) (z .ensures ∙ ap (λ (n : ℕ). replicate n 0) (g .pre .1)) (k .ensures))
+    ∙ start-length (g .args .table .now) (g .pre .0)
+    ∙ sym (g .pre .1)
 
-returns : tie.Need-returns Inv-loop μ-loop
+returns : tie.Need-returns
 returns c =
-    let g = c .before .before .before .before .args in
-    let w = startWords (g .table .now) in
-    let n = start-length (g .table .now) (omega arith) in
-    let e : c .before .loop .i ≡ length w = omega arith in
-    (rw e at (c .before .loop .inv .2)) ∙ front-all w (g .state .now) (omega arith)
+    let g = c .before .before .before .before .before .before .before .before .before .before .before in
+    let z = c .before .before .before .before .before .before .before .clear in
+    let k = c .before .before .copy in
+    start-put (g .args .table .now) (z .last .0) (k .last .1 .0) (z .ensures ∙ ap (λ (n : ℕ). replicate n 0) (g .pre .1)) (k .ensures)
 
 pub put-start-spec : {M : Type 1} → statement M
 put-start-spec =
     tie.close
     (tie.spec
-    Inv-loop
-    μ-loop
-    loop-holds
-    start-word-requires
-    mul-state
+    clear-requires
     slice-write-state
-    add-i
-    loop-less
-    loop-again
+    sub-copy
+    part-copy-start
+    part-copy-end
+    sub-copy-2
+    part-copy-start-2
+    part-copy-end-2
+    copy-requires
     same-length
     returns)
