@@ -1,6 +1,6 @@
 //! Prints what the proved calls cost, beside an optimised Rust implementation and a plain sum.
 //!
-//! `bench` prints the tables. `bench only NAME SIDE TURNS`, where SIDE is `proved`, `quick`, `narrow` or
+//! `bench` prints the tables, `bench calls` the first of them. `bench only NAME SIDE TURNS`, where SIDE is `proved`, `quick`, `narrow` or
 //! `sum`,
 //! does that row alone and times nothing, for a counter of instructions such as callgrind.
 
@@ -119,8 +119,12 @@ fn main() -> ExitCode {
             print_all();
             Ok(())
         }
+        ["calls"] => {
+            print_table();
+            Ok(())
+        }
         ["only", name, side, turns] => only(name, side, turns),
-        _ => Err("usage: bench [only NAME SIDE TURNS]".to_string()),
+        _ => Err("usage: bench [calls | only NAME SIDE TURNS]".to_string()),
     };
     match done {
         Ok(()) => ExitCode::SUCCESS,
