@@ -1,6 +1,6 @@
 // The start state of a table.
-use tables::loading::clear;
-use tables::loading::copy;
+use tables::words::clear;
+use tables::words::copy;
 ghost use mathlib.Core.Path.{_≡_};
 ghost use Prim.Native.Nat.{_≤_};
 ghost use lib.ListN.{length};

@@ -4,7 +4,7 @@ ghost use mathlib.Core.Path.{_≡_};
 ghost use mathlib.Core.Bool.{true};
 ghost use mathlib.Core.List.{[], _∷_};
 ghost use Prim.Native.Nat.{_+_, _-_, _≤_, _<_};
-ghost use lib.ListN.{length, set, replicate};
+ghost use lib.ListN.{length, set};
 ghost use lib.Seq.{sets};
 ghost use Rattle.tables.specs.Layout.{tableWords, startPlace, rowPlace};
 ghost use Rattle.tables.specs.Heads.{digitsAt, wordsAt};
@@ -18,29 +18,6 @@ fn put_words(table: &mut [u32], place: usize, w: u32, x: u32, y: u32, z: u32)
     table[place + 1] = x;
     table[place + 2] = y;
     table[place + 3] = z;
-}
-
-// Every word becomes 0.
-pub fn clear(table: &mut [u32])
-    ensures { λ _. ⌜ now (table .exit) ≡ replicate (length (now (table .entry))) 0 ⌝ }
-{
-    let mut i = 0;
-    while i < table.len() {
-        table[i] = 0;
-        i += 1;
-    }
-}
-
-// Words of the same number take the place of others.
-pub fn copy(from: &[u32], to: &mut [u32])
-    requires { ⌜ length (now to) ≡ length (now from) ⌝ }
-    ensures { λ _. ⌜ now (to .exit) ≡ now (from .entry) ⌝ }
-{
-    let mut i = 0;
-    while i < to.len() {
-        to[i] = from[i];
-        i += 1;
-    }
 }
 
 // Agent a with the starting registers of the line at this place.

@@ -7,8 +7,8 @@ use native.Mathlib.Omega.{arith}
 use lib.ListN.{length, set, take, drop, getD, length-set, drop-of-length-le}
 use lib.Seq.{take-all, paste, paste-zero, paste-suc}
 use native.Mathlib.Numerals.{add-one}
-use Rattle.tables.proofs.loading.copy.Statement.{statement}
-use Rattle.tables.proofs.loading.copy.Tie as tie
+use Rattle.tables.proofs.words.copy.Statement.{statement}
+use Rattle.tables.proofs.words.copy.Tie as tie
 
 abbrev Inv-loop : tie.InvT-loop
 Inv-loop from to₀ i₀ to i = (i ≤ length from) × (to ≡ paste to₀ 0 from i) × (length to ≡ length from)

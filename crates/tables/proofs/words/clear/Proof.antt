@@ -5,8 +5,8 @@ use Prim.Native.Nat.{ℕ, _-_, _≤_, zero-le}
 use native.Mathlib.Omega.{arith}
 use lib.ListN.{length, set, drop, replicate, length-set, drop-of-length-le}
 use borrow.Author.Fill.{fill-more}
-use Rattle.tables.proofs.loading.clear.Statement.{statement}
-use Rattle.tables.proofs.loading.clear.Tie as tie
+use Rattle.tables.proofs.words.clear.Statement.{statement}
+use Rattle.tables.proofs.words.clear.Tie as tie
 
 abbrev Inv-loop : tie.InvT-loop
 Inv-loop table₀ i₀ table i = (i ≤ length table₀) × (table ≡ replicate i 0 ++ drop i table₀) × (length table ≡ length table₀)
