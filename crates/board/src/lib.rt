@@ -1,17 +1,18 @@
 // The exported functions, for the switch's C code: each is one line over a proved call, with that call's statement.
 // A slice passes as pointer and length.
 use executive::Ran;
-use tables::Told;
+use reading::Told;
 use traces::TraceReply;
 ghost use Rattle.tables.specs.Calls as Tables;
+ghost use Rattle.reading.specs.Calls as Reading;
 ghost use Rattle.executive.specs.Calls as Executive;
 ghost use Rattle.traces.specs.Calls as Traces;
 
 #[no_mangle]
 pub extern "C" fn tannoplex_read(text: &[u8], table: &mut [u32]) -> Told
-    ensures { λ r. ⌜ Tables.Read (now (text .entry)) (now (table .entry)) r (now (table .exit)) ⌝ }
+    ensures { λ r. ⌜ Reading.Read (now (text .entry)) (now (table .entry)) r (now (table .exit)) ⌝ }
 {
-    tables::reading::read(text, table)
+    reading::reading::read(text, table)
 }
 
 #[no_mangle]

@@ -12,8 +12,8 @@ use Rattle.tables.specs.Rows.{rowReply, wellFormed, fieldsFit, namesOf, within}
 use Rattle.tables.specs.Table.{goodTable, goodAgent, goodRows, rowReplyAt, earlyBefore, lateBefore}
 use Rattle.tables.specs.Lines.{lines, same, endLine, hexDigit, allHex, number, field, digitsLine, newline}
 use Rattle.tables.specs.Frames.{frameOf, framesOf, fourWords}
-use Rattle.tables.specs.Reader.{inPlace, rowsGood, rowsNext, framesReply, loaded, tableOf}
-use Rattle.tables.specs.Calls.{readInto, framesInto}
+use Rattle.reading.specs.Reader.{inPlace, rowsGood, rowsNext, framesReply, loaded, tableOf}
+use Rattle.reading.specs.Calls.{readInto, framesInto}
 use Rattle.executive.specs.State.{stateWords, posPlace, regPlace, startWords}
 use Rattle.executive.specs.Messages.{best, lookAgents, lookRows, look, visible, beats}
 use Rattle.executive.specs.Effect.{after, receive}

@@ -8,15 +8,5 @@ pub mod Good
 pub mod Lines
 pub mod Newlines
 pub mod Heads
-pub mod Places
-pub mod Arms
-pub mod Accepted
-pub mod RowsRead
-pub mod Loads
-pub mod Outcomes
 pub mod Sound
 pub mod Digits
-pub mod Stores
-pub mod Growing
-pub mod ReadGood
-pub mod Bounds

@@ -11,27 +11,10 @@ use borrow.Author.Tests.{eqb-true}
 use Rattle.tables.specs.Lines.{endLine, number, field, hexDigit}
 use Rattle.tables.specs.Frames.{Frame, opens, gives, ends, malformed, framesOf}
 use Rattle.tables.specs.Heads.{endAt, digitsAt, headLine, lineAt, sound}
-use Rattle.tables.specs.Reader.{inPlace}
 use Rattle.tables.specs.declared.frames.Line.{Line}
 use Rattle.tables.specs.declared.frames.Line.the-variants.{Opens, Gives, Ends, Malformed}
 use Rattle.tables.proofs.Lines.{same-eq, number-next, hex-small}
 use Rattle.tables.proofs.Heads.{kindLine, line-digits, framed, ends-at, some-frames}
-use Rattle.tables.proofs.Accepted.{Placed, open-on, give-on}
-
--- frames in their places are sound
-pub placed-sound : (fs : List Frame) (n a i : ℕ) → Placed n a i fs → sound fs ≡ true
-unfolding sound inPlace
-placed-sound [] n a i q = refl
-placed-sound (opens b ws ∷ fs) n a i q = placed-sound fs (n + 1) (a + 1) 0 (open-on n a i b ws fs q)
-placed-sound (gives b ws ∷ fs) n a i q = placed-sound fs (n + 1) a (i + 1) (give-on n a i b ws fs q)
-placed-sound (ends ∷ fs) n a i q = refl
-placed-sound (malformed ∷ fs) n a i q = let z = q .placed in absurd (omega arith)
-
--- after a row's line too
-pub sound-next : (text : List ℕ) (p : ℕ) → p ≤ length text → (b : ℕ) → lineAt text p ≡ Gives b → sound (framesOf (drop p text)) ≡ true
-    → sound (framesOf (drop (p + 37) text)) ≡ true
-unfolding sound
-sound-next text p i b e s = sym (ap sound (framed text p i (Gives b) e refl .frames)) ∙ s
 
 -- how each line begins
 abbrev pub Begins : (text : List ℕ) (p : ℕ) → Line → Type 0

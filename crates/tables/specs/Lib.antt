@@ -7,5 +7,4 @@ pub mod Table
 pub mod Lines
 pub mod Frames
 pub mod Heads
-pub mod Reader
 pub mod Calls

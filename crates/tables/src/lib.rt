@@ -1,13 +1,10 @@
-// Tables of rows: their words, the rules of a row, the check of a table, and the reader of text frames.
+// Tables of rows: their words, the rules of a row, the check of a table, and the lines of a text.
 // Everything above relies only on what this crate promises.
 pub mod replies; // replies.rt: the numbers of the replies
 pub mod words; // words.rt: words that are 0, made 0, or taken from others
 pub mod rows; // rows.rt: a row of a table, its family, and replies 4 to 7
 pub mod checking; // checking.rt: the check of a table's words, reply 8
 pub mod frames; // frames.rt: the lines of a text
-pub mod placing; // placing.rt: replies 2 and 3
-pub mod loading; // loading.rt: frames into the words of a table
-pub mod reading; // reading.rt: the reader
 
 // A row, taken apart.
 pub struct Row {
@@ -27,11 +24,4 @@ pub enum Family {
     Send,
     Receive,
     Unknown,
-}
-
-// A reply, with the number of the line that it tells, from 1, or 0.
-#[repr(C)]
-pub struct Told {
-    pub reply: u32,
-    pub line: u32,
 }

@@ -7,9 +7,9 @@ use lib.ListN.{length, drop, replicate, length-replicate, drop-of-length-le}
 use borrow.Author.Tests.{lt-ltb, le-ltb}
 use Rattle.tables.specs.Layout.{tableWords}
 use Rattle.tables.specs.Frames.{Frame, framesOf}
-use Rattle.tables.specs.Reader.{told, framesReply, tableOf}
-use Rattle.tables.specs.Calls.{ReadOutcome, readOutcome, framesInto, readInto}
-use Rattle.tables.specs.declared.Told.{Told}
+use Rattle.reading.specs.Reader.{told, framesReply, tableOf}
+use Rattle.reading.specs.Calls.{ReadOutcome, readOutcome, framesInto, readInto}
+use Rattle.reading.specs.declared.Told.{Told}
 use Rattle.executive.specs.State.{startWords}
 use Rattle.traces.specs.Input.{longestInput, tableText, choiceLines, badChoiceOf, choicesIn}
 use Rattle.traces.specs.Output.{Traced, traced, lastLine, traceFrom, traceChoices, traceTable, traceOf}

@@ -9,10 +9,10 @@ use Rattle.tables.specs.Layout.{tableWords}
 use Rattle.tables.specs.Lines.{lines}
 use Rattle.tables.specs.Table.{goodTable}
 use Rattle.tables.specs.Frames.{framesOf}
-use Rattle.tables.specs.Reader.{framesReply, tableOf}
-use Rattle.tables.specs.Calls.{ReadOutcome, Read}
-use Rattle.tables.specs.declared.Told.{Told}
-use Rattle.tables.proofs.ReadGood.{table-length, read-good}
+use Rattle.reading.specs.Reader.{framesReply, tableOf}
+use Rattle.reading.specs.Calls.{ReadOutcome, Read}
+use Rattle.reading.specs.declared.Told.{Told}
+use Rattle.reading.proofs.ReadGood.{table-length, read-good}
 use Rattle.executive.specs.State.{startWords}
 use Rattle.traces.specs.Input.{longestInput, tableBytes, tableText, choiceLines, badChoice, badChoiceOf, choicesIn}
 use Rattle.traces.specs.Output.{traced, lastLine, traceFrom, traceOf}

@@ -6,8 +6,8 @@ use lib.Dec.{ltb}
 use lib.ListN.{length, replicate}
 use Rattle.tables.specs.Lines.{newline}
 use Rattle.tables.specs.Layout.{tableWords}
-use Rattle.tables.specs.Calls.{readInto}
-use Rattle.tables.specs.declared.Told.{Told}
+use Rattle.reading.specs.Calls.{readInto}
+use Rattle.reading.specs.declared.Told.{Told}
 use Rattle.executive.specs.State.{startWords, agentAt}
 use Rattle.executive.specs.Step.{choiceReply, accepted}
 use Rattle.executive.specs.declared.Agent.{Agent}

@@ -3,7 +3,7 @@ use crate::input::first_bad_choice;
 use crate::input::table_end;
 use crate::tracing::finish;
 use crate::tracing::trace_steps;
-use tables::reading::read;
+use reading::reading::read;
 use tables::replies::ACCEPTED;
 use tables::replies::INPUT_TOO_LONG;
 use tables::replies::MALFORMED;

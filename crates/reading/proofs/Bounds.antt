@@ -1,0 +1,101 @@
+-- The numbers that `read` replies with are small: a reply up to 7, a line up to 562, so that two bytes hold the line. Assumes nothing.
+use mathlib.Core.Path.{_≡_, refl, sym, ap, subst}
+use mathlib.Core.Bool.{Bool, true, false, cond}
+use mathlib.Core.List.{List, [], _∷_}
+use Prim.Native.Nat.{ℕ, zero, suc, _+_, _*_, _≤_}
+use native.Mathlib.Omega.{arith}
+use lib.Dec.{T, leb, ltb, leb→le}
+use lib.ListN.{length}
+use borrow.Author.Tests.{ltb-true, ltb-false}
+use Rattle.tables.specs.Basics.{first, _⇒_, Rule}
+use Rattle.tables.specs.Rows.{rowReply}
+use Rattle.tables.specs.Frames.{Frame, opens, gives, ends, malformed, framesOf}
+use Rattle.reading.specs.Reader.{told, noneLeft, inPlace, rowsNext, rowIn, rowsGood, framesReply}
+use Rattle.tables.specs.Layout.{tableWords}
+use Rattle.reading.specs.Calls.{Read, ReadOutcome, readInto}
+use Rattle.tables.specs.declared.Row.{Row}
+use Rattle.reading.specs.declared.Told.{Told}
+use Rattle.reading.proofs.Places.{mayOpen, mayGive, open-room, give-room, place-open, place-open-not, place-give, place-give-not}
+use Rattle.reading.proofs.Accepted.{Placed, placed-first, open-on, give-on}
+use Rattle.reading.proofs.RowsRead.{good-row, bad-row}
+use Rattle.reading.proofs.Outcomes.{misplaced, in-places, short-table, read-told}
+
+pub record Small (t : Told) : Type 0 where
+  pub reply : t .reply ≤ 7
+  pub line : t .line ≤ 562
+
+small : (r n : ℕ) → r ≤ 7 → n ≤ 562 → Small (told r n)
+small r n h k = record { reply = h; line = k }
+
+place-small : (fs : List Frame) (n a i : ℕ) → a ≤ 16 → i ≤ 32 → n ≤ 33 * a + i + 1 → Small (inPlace n a i fs)
+unfolding inPlace
+place-small [] n a i h k l = small 3 n (omega arith) (omega arith)
+place-small (malformed ∷ fs) n a i h k l = small 2 n (omega arith) (omega arith)
+place-small (opens b ws ∷ fs) n a i h k l = go (mayOpen b a i) refl (λ m. place-small fs (n + 1) (a + 1) 0 (omega arith) (omega arith) (omega arith))
+  where
+    go : (t : Bool) → mayOpen b a i ≡ t → (a + 1 ≤ 16 → Small (inPlace (n + 1) (a + 1) 0 fs)) → Small (inPlace n a i (opens b ws ∷ fs))
+    go true e rec = subst Small (sym (place-open n a i b ws fs e)) (rec (omega (arith, open-room b a i e)))
+    go false e rec = subst Small (sym (place-open-not n a i b ws fs e)) (small 3 n (omega arith) (omega arith))
+place-small (gives b ws ∷ fs) n a i h k l = go (mayGive b a i) refl (λ m. place-small fs (n + 1) a (i + 1) h m (omega arith))
+  where
+    go : (t : Bool) → mayGive b a i ≡ t → (i + 1 ≤ 32 → Small (inPlace (n + 1) a (i + 1) fs)) → Small (inPlace n a i (gives b ws ∷ fs))
+    go true e rec = subst Small (sym (place-give n a i b ws fs e)) (rec (omega (arith, give-room b a i e)))
+    go false e rec = subst Small (sym (place-give-not n a i b ws fs e)) (small 3 n (omega arith) (omega arith))
+place-small (ends ∷ fs) n a i h k l = go (ltb 0 i) (noneLeft fs)
+  where
+    go : (s o : Bool) → Small (cond s (cond o (told 0 0) (told 3 (n + 1))) (told 3 n))
+    go true true = small 0 0 (omega arith) (omega arith)
+    go true false = small 3 (n + 1) (omega arith) (omega arith)
+    go false o = small 3 n (omega arith) (omega arith)
+
+-- the numbers of some rules are at most 7
+abbrev upTo7 : List Rule → Bool
+upTo7 [] = true
+upTo7 ((b ⇒ r) ∷ rs) = cond (leb r 7) (upTo7 rs) false
+
+first-small : (rs : List Rule) → upTo7 rs ≡ true → first rs ≤ 7
+unfolding first
+first-small [] h = omega arith
+first-small ((b ⇒ r) ∷ rs) h = go b (leb r 7) refl h (first-small rs)
+  where
+    go : (t s : Bool) → leb r 7 ≡ s → cond s (upTo7 rs) false ≡ true → (upTo7 rs ≡ true → first rs ≤ 7) → cond t r (first rs) ≤ 7
+    go true true e k rec = leb→le r 7 (subst T (sym e) tt)
+    go false true e k rec = rec k
+    go t false e k rec = let z : _≡_ {A = ℕ} 0 1 = cc in absurd (omega arith)
+
+row-small : (r : Row) (i c e l : ℕ) → rowReply r i c e l ≤ 7
+unfolding rowReply
+row-small r i c e l = first-small _ refl
+
+rows-small : (fs : List Frame) (n a c i e l : ℕ) → Placed n a i fs → Small (rowsGood n c i e l fs)
+unfolding rowsGood
+rows-small [] n a c i e l q = small 0 0 (omega arith) (omega arith)
+rows-small (malformed ∷ fs) n a c i e l q = small 0 0 (omega arith) (omega arith)
+rows-small (ends ∷ fs) n a c i e l q = small 0 0 (omega arith) (omega arith)
+rows-small (opens b ws ∷ fs) n a c i e l q = rows-small fs (n + 1) (a + 1) (rowsNext fs) 0 0 0 (open-on n a i b ws fs q)
+rows-small (gives b ws ∷ fs) n a c i e l q =
+    go (rowReply (rowIn ws) i c e l) refl (rows-small fs (n + 1) a c (i + 1) (rowIn ws .early) (rowIn ws .late) (give-on n a i b ws fs q))
+  where
+    go : (r : ℕ) → rowReply (rowIn ws) i c e l ≡ r → Small (rowsGood (n + 1) c (i + 1) (rowIn ws .early) (rowIn ws .late) fs)
+        → Small (rowsGood n c i e l (gives b ws ∷ fs))
+    go zero h rec = subst Small (sym (good-row n c i e l b ws fs h)) rec
+    go (suc r) h rec =
+        let m = row-small (rowIn ws) i c e l in
+        let k = q .line in
+        let a = q .agents in
+        let j = q .rows in
+        subst Small (sym (bad-row n c i e l b ws fs (suc r) h (λ z. omega arith))) (small (suc r) n (omega arith) (omega arith))
+
+pub frames-small : (fs : List Frame) → Small (framesReply fs)
+frames-small fs = go (inPlace 1 0 0 fs .reply) refl
+  where
+    go : (r : ℕ) → inPlace 1 0 0 fs .reply ≡ r → Small (framesReply fs)
+    go zero h = subst Small (sym (in-places fs h)) (rows-small fs 1 0 0 0 0 0 (placed-first fs h))
+    go (suc r) h = subst Small (sym (misplaced fs (suc r) h (λ z. omega arith))) (place-small fs 1 0 0 (omega arith) (omega arith) (omega arith))
+
+pub read-small : (text tb : List ℕ) (t : Told) (after : List ℕ) → Read text tb t after → Small t
+read-small text tb t after r = subst Small (sym (ap (λ (o : ReadOutcome). o .told) r)) (go (ltb (length tb) tableWords) refl)
+  where
+    go : (b : Bool) → ltb (length tb) tableWords ≡ b → Small (readInto text tb .told)
+    go true e = subst Small (ap (λ (o : ReadOutcome). o .told) (short-table text tb (ltb-true _ _ e))) (small 1 0 (omega arith) (omega arith))
+    go false e = subst Small (sym (read-told text tb (ltb-false _ _ e))) (frames-small (framesOf text))

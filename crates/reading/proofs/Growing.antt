@@ -1,0 +1,217 @@
+-- The words of a table while a text is taken in: what holds of them after each line. Assumes nothing.
+use mathlib.Core.Path.{_≡_, refl, ap, _∙_}
+use mathlib.Core.List.{List}
+use Prim.Native.Nat.{ℕ, zero, suc, _+_, _-_, _≤_, _<_}
+use native.Mathlib.Numerals.{add-one}
+use native.Mathlib.Omega.{arith}
+use lib.ListN.{length, getD, set, length-set}
+use lib.Seq.{sets, length-sets, getD-set-same, getD-set-other}
+use borrow.Author.Count.{below-more}
+use Rattle.tables.specs.Layout.{agents, rows, row, rowPlace, startPlace, tableWords}
+use Rattle.tables.specs.Rows.{rowReply}
+use Rattle.tables.specs.Table.{earlyBefore, lateBefore, rowReplyAt}
+use Rattle.tables.specs.Lines.{same}
+use Rattle.reading.specs.Reader.{rowIn}
+use Rattle.tables.specs.declared.Row.{Row}
+use Rattle.tables.proofs.Good.{Zero, AgentFacts, TableFacts}
+use Rattle.reading.proofs.Stores.{sets-below, sets-above, sets-in}
+
+-- the reply of row j of agent a, where its agent has c rows
+abbrev replyIn : List ℕ → ℕ → ℕ → ℕ → ℕ
+replyIn tb a c j = rowReply (row tb a j) j c (earlyBefore tb a j) (lateBefore tb a j)
+
+-- ---- two tables that agree on the first m rows of an agent
+
+module _ (tb other : List ℕ) (a m : ℕ) (same : (k : ℕ) → rowPlace a 0 ≤ k → k < rowPlace a m → getD other k 0 ≡ getD tb k 0) where
+  row-same : (i : ℕ) → i < m → row other a i ≡ row tb a i
+  row-same i h =
+      rw (
+        same (rowPlace a i) (omega arith) (omega arith),
+        same (rowPlace a i + 1) (omega arith) (omega arith),
+        same (rowPlace a i + 2) (omega arith) (omega arith),
+        same (rowPlace a i + 3) (omega arith) (omega arith),
+      )
+
+  early-same : (i : ℕ) → i ≤ m → earlyBefore other a i ≡ earlyBefore tb a i
+  unfolding earlyBefore
+  early-same zero h = refl
+  early-same (suc i) h = ap (λ (r : Row). r .early) (row-same i h)
+
+  late-same : (i : ℕ) → i ≤ m → lateBefore other a i ≡ lateBefore tb a i
+  unfolding lateBefore
+  late-same zero h = refl
+  late-same (suc i) h = ap (λ (r : Row). r .late) (row-same i h)
+
+  reply-same : (c i : ℕ) → i < m → replyIn other a c i ≡ replyIn tb a c i
+  reply-same c i h = rw (row-same i h, early-same i (omega arith), late-same i (omega arith))
+
+agent-same : (tb other : List ℕ) (a : ℕ) → rows other a ≡ rows tb a → ((k : ℕ) → rowPlace a 0 ≤ k → k < rowPlace a 32 → getD other k 0 ≡ getD tb k 0)
+    → AgentFacts tb a → AgentFacts other a
+unfolding rowReplyAt
+agent-same tb other a n same f =
+    let some = f .rows-some in
+    let few = f .rows-few in
+    record {
+      rows-some = omega arith;
+      rows-few = omega arith;
+      rows-pass =
+          λ i l.
+          reply-same tb other a 32 same (rows other a) i (omega arith) ∙ ap (λ (c : ℕ). replyIn tb a c i) n ∙ f .rows-pass i (omega arith);
+      rows-past = λ k h l. same k (omega arith) (omega arith) ∙ f .rows-past k (omega arith) l;
+    }
+
+-- ---- the words while a text is taken in
+
+-- a agents are there, each with all its rows
+pub record Closed (tb : List ℕ) (a : ℕ) : Type 0 where
+  pub words : length tb ≡ tableWords
+  pub done : (b : ℕ) → b < a → AgentFacts tb b
+  pub counts-past : Zero tb (1 + a) 17
+  pub registers-past : Zero tb (startPlace a) 81
+  pub rows-past : Zero tb (rowPlace a 0) tableWords
+
+-- agent b is open, with i of its c rows so far, the last with the window from e to l
+pub record Open (tb : List ℕ) (b i c e l : ℕ) : Type 0 where
+  pub words : length tb ≡ tableWords
+  pub count : agents tb ≡ b + 1
+  pub rows-now : rows tb b ≡ i
+  pub done : (a : ℕ) → a < b → AgentFacts tb a
+  pub pass : (j : ℕ) → j < i → replyIn tb b c j ≡ 0
+  pub early : earlyBefore tb b i ≡ e
+  pub late : lateBefore tb b i ≡ l
+  pub counts-past : Zero tb (2 + b) 17
+  pub registers-past : Zero tb (startPlace (b + 1)) 81
+  pub rows-past : Zero tb (rowPlace b i) tableWords
+
+-- an agent is opened
+module _ (tb : List ℕ) (b : ℕ) (ws : List ℕ) (t : Closed tb b) (room : b < 16) (four : length ws ≡ 4) where
+  unfoldable pub after-open : List ℕ
+  after-open = sets (set tb 0 (b + 1)) (startPlace b) ws
+
+  open-below : (k : ℕ) → 1 ≤ k → k < 17 → getD after-open k 0 ≡ getD tb k 0
+  unfolding after-open
+  open-below k h l = sets-below (set tb 0 (b + 1)) (startPlace b) ws k (omega arith) ∙ getD-set-other tb 0 k (b + 1) 0 (λ e. omega arith)
+
+  open-above : (k : ℕ) → startPlace b + 4 ≤ k → getD after-open k 0 ≡ getD tb k 0
+  unfolding after-open
+  open-above k h = sets-above (set tb 0 (b + 1)) (startPlace b) ws k (omega arith) ∙ getD-set-other tb 0 k (b + 1) 0 (λ e. omega arith)
+
+  pub opened : (c : ℕ) → Open after-open b 0 c 0 0
+  unfolding after-open earlyBefore lateBefore
+  opened c = record {
+    words = length-sets (set tb 0 (b + 1)) (startPlace b) ws ∙ length-set tb 0 (b + 1) ∙ t .words;
+    count =
+        sets-below (set tb 0 (b + 1)) (startPlace b) ws 0 (omega arith)
+        ∙ getD-set-same tb 0 (b + 1) 0 (omega (arith, t .words));
+    rows-now = open-below (1 + b) (omega arith) (omega arith) ∙ t .counts-past (1 + b) (omega arith) (omega arith);
+    done =
+        λ a h.
+        agent-same tb after-open a (open-below (1 + a) (omega arith) (omega arith)) (λ k g l. open-above k (omega arith)) (t .done a h);
+    pass = λ j h. absurd (omega arith);
+    early = refl;
+    late = refl;
+    counts-past = λ k h l. open-below k (omega arith) l ∙ t .counts-past k (omega arith) l;
+    registers-past = λ k h l. open-above k (omega arith) ∙ t .registers-past k (omega arith) l;
+    rows-past = λ k h l. open-above k (omega arith) ∙ t .rows-past k h l;
+  }
+
+-- a row is given
+module _ (tb : List ℕ) (b i c e l : ℕ) (ws : List ℕ) (t : Open tb b i c e l) (room : b < 16) (below : i < 32) (four : length ws ≡ 4) where
+  unfoldable pub after-give : List ℕ
+  after-give = sets (set tb (b + 1) (i + 1)) (rowPlace b i) ws
+
+  fits : rowPlace b i + length ws ≤ length (set tb (b + 1) (i + 1))
+  fits = let n = length-set tb (b + 1) (i + 1) in omega (arith, t .words)
+
+  give-below : (k : ℕ) → (k ≡ b + 1 → ⊥) → k < rowPlace b i → getD after-give k 0 ≡ getD tb k 0
+  unfolding after-give
+  give-below k n h = sets-below (set tb (b + 1) (i + 1)) (rowPlace b i) ws k h ∙ getD-set-other tb (b + 1) k (i + 1) 0 n
+
+  give-above : (k : ℕ) → rowPlace b i + 4 ≤ k → getD after-give k 0 ≡ getD tb k 0
+  unfolding after-give
+  give-above k h =
+      sets-above (set tb (b + 1) (i + 1)) (rowPlace b i) ws k (omega arith) ∙ getD-set-other tb (b + 1) k (i + 1) 0 (λ q. omega arith)
+
+  rows-kept : (a : ℕ) (k : ℕ) → rowPlace a 0 ≤ k → k < rowPlace b i → getD after-give k 0 ≡ getD tb k 0
+  rows-kept a k g h = give-below k (λ q. omega arith) h
+
+  new-length : length after-give ≡ tableWords
+  unfolding after-give
+  new-length = length-sets (set tb (b + 1) (i + 1)) (rowPlace b i) ws ∙ length-set tb (b + 1) (i + 1) ∙ t .words
+
+  new-count : rows after-give b ≡ i + 1
+  unfolding after-give
+  new-count =
+      let s : 1 + b ≡ b + 1 = omega arith in
+      sets-below (set tb (b + 1) (i + 1)) (rowPlace b i) ws (1 + b) (omega arith)
+      ∙ ap (λ (k : ℕ). getD (set tb (b + 1) (i + 1)) k 0) s
+      ∙ getD-set-same tb (b + 1) (i + 1) 0 (omega (arith, t .words))
+
+  new-row : row after-give b i ≡ rowIn ws
+  unfolding after-give
+  new-row =
+      let at : (j k : ℕ) → k ≡ rowPlace b i + j → j < 4 → getD after-give k 0 ≡ getD ws j 0
+      = λ j k q h. sets-in (set tb (b + 1) (i + 1)) (rowPlace b i) ws j k q (omega arith) fits in
+      rw (
+        at 0 (rowPlace b i) (omega arith) (omega arith),
+        at 1 (rowPlace b i + 1) refl (omega arith),
+        at 2 (rowPlace b i + 2) refl (omega arith),
+        at 3 (rowPlace b i + 3) refl (omega arith),
+      )
+
+  pub given : rowReply (rowIn ws) i c e l ≡ 0 → Open after-give b (i + 1) c (rowIn ws .early) (rowIn ws .late)
+  unfolding earlyBefore lateBefore
+  given passes = record {
+    words = new-length;
+    count = give-below 0 (λ q. omega arith) (omega arith) ∙ t .count;
+    rows-now = new-count;
+    done =
+        λ a h.
+        agent-same tb after-give a (give-below (1 + a) (λ q. omega arith) (omega arith)) (λ k g m. rows-kept a k g (omega arith)) (t .done a h);
+    pass =
+        below-more
+        (λ (j : ℕ). replyIn after-give b c j ≡ 0)
+        i
+        (λ j h. reply-same tb after-give b i (rows-kept b) c j h ∙ t .pass j h)
+        (rw (new-row, early-same tb after-give b i (rows-kept b) i (omega arith), late-same tb after-give b i (rows-kept b) i (omega arith), t .early, t .late) passes);
+    early = rw (add-one i) (ap (λ (r : Row). r .early) new-row);
+    late = rw (add-one i) (ap (λ (r : Row). r .late) new-row);
+    counts-past = λ k h m. give-below k (λ q. omega arith) (omega arith) ∙ t .counts-past k h m;
+    registers-past = λ k h m. give-below k (λ q. omega arith) (omega arith) ∙ t .registers-past k h m;
+    rows-past = λ k h m. give-above k (omega arith) ∙ t .rows-past k (omega arith) m;
+  }
+
+-- an agent has all its rows
+module _ (tb : List ℕ) (b i c e l : ℕ) (t : Open tb b i c e l) (room : b < 16) (some : 0 < i) (few : i ≤ 32) (all : i ≡ c) where
+  last-agent : AgentFacts tb b
+  unfolding rowReplyAt
+  last-agent =
+      let n = t .rows-now in
+      record {
+        rows-some = omega arith;
+        rows-few = omega arith;
+        rows-pass = λ j h. ap (λ (k : ℕ). replyIn tb b k j) (n ∙ all) ∙ t .pass j (omega arith);
+        rows-past = λ k h m. t .rows-past k (omega arith) (omega arith);
+      }
+
+  pub closed : Closed tb (b + 1)
+  closed = record {
+    words = t .words;
+    done = below-more (AgentFacts tb) b (t .done) last-agent;
+    counts-past = λ k h m. t .counts-past k (omega arith) m;
+    registers-past = t .registers-past;
+    rows-past = λ k h m. t .rows-past k (omega arith) m;
+  }
+
+  pub all-facts : TableFacts tb
+  all-facts =
+      let n = t .count in
+      let d = closed in
+      record {
+        some-agents = omega arith;
+        few-agents = omega arith;
+        each-agent = λ a h. d .done a (omega arith);
+        counts-past = λ k h m. d .counts-past k (omega arith) m;
+        registers-past = λ k h m. d .registers-past k (omega arith) m;
+        agents-past = λ k h m. d .rows-past k (omega arith) m;
+      }

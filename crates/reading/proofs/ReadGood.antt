@@ -1,0 +1,143 @@
+-- What `read` accepts, `check` accepts. Assumes nothing.
+use mathlib.Core.Path.{_≡_, refl, sym, ap, subst, _∙_}
+use mathlib.Core.Bool.{Bool, true, false, cond}
+use mathlib.Core.List.{List, [], _∷_, _++_, map}
+use Prim.Native.Nat.{ℕ, zero, suc, _+_, _-_, _<_}
+use native.Mathlib.Omega.{arith}
+use lib.Dec.{eqb}
+use lib.ListN.{length, getD, set, take, drop, replicate, length-set, length-append, length-replicate}
+use lib.Seq.{sets, length-sets, take-at}
+use Rattle.tables.specs.Layout.{agents, rows, rowPlace, startPlace, tableWords}
+use Rattle.tables.specs.Rows.{rowReply}
+use Rattle.tables.specs.Table.{goodTable}
+use Rattle.tables.specs.Lines.{same, endLine, digitsLine, field, lines}
+use Rattle.tables.specs.Frames.{Frame, opens, gives, ends, malformed, fourWords, frameOf, framesOf}
+use Rattle.reading.specs.Reader.{inPlace, rowsNext, rowIn, rowsGood, framesReply, loaded, tableOf}
+use Rattle.tables.specs.Calls.{Checked}
+use Rattle.reading.specs.Calls.{Read}
+use Rattle.reading.specs.declared.Told.{Told}
+use Rattle.tables.proofs.Good.{TableFacts, table-good, good-checked}
+use Rattle.reading.proofs.Accepted.{Placed, placed-first, open-agent, open-rows, open-on, give-agent, give-row, give-on, ends-rows}
+use Rattle.reading.proofs.Outcomes.{in-places, accepted-placed, accepted-read}
+use Rattle.reading.proofs.RowsRead.{good-row, bad-row}
+use Rattle.reading.proofs.Growing.{Closed, Open, after-open, opened, after-give, given, closed, all-facts}
+
+-- opening lines and rows have four words
+abbrev Four : Frame → Type 0
+Four (opens b ws) = length ws ≡ 4
+Four (gives b ws) = length ws ≡ 4
+Four ends = Unit
+Four malformed = Unit
+
+abbrev Fours : List Frame → Type 0
+Fours [] = Unit
+Fours (f ∷ fs) = Four f × Fours fs
+
+built : (fs tb : _) (n b i c e l : ℕ) → Fours fs → Open tb b i c e l → Placed n (b + 1) i fs → i + rowsNext fs ≡ c → rowsGood n c i e l fs .reply ≡ 0
+    → TableFacts (loaded tb (b + 1) i fs)
+unfolding rowsNext rowsGood loaded inPlace after-open after-give
+built [] tb n b i c e l f t q k z = absurd (let y = q .placed in omega arith)
+built (malformed ∷ fs) tb n b i c e l f t q k z = absurd (let y = q .placed in omega arith)
+built (ends ∷ fs) tb n b i c e l f t q k z =
+    all-facts tb b i c e l t (omega (arith, q .agents)) (ends-rows n (b + 1) i fs q) (q .rows) (omega arith)
+built (opens b′ ws ∷ fs) tb n b i c e l f t q k z =
+    let some = open-rows n (b + 1) i b′ ws fs q (omega arith) in
+    let d = closed tb b i c e l t (omega (arith, q .agents)) some (q .rows) (omega arith) in
+    let r = open-agent n (b + 1) i b′ ws fs q in
+    built fs (after-open tb (b + 1) ws d r (f .0)) (n + 1) (b + 1) 0 (rowsNext fs) 0 0 (f .1)
+    (opened tb (b + 1) ws d r (f .0) (rowsNext fs)) (open-on n (b + 1) i b′ ws fs q) (omega arith) z
+built (gives b′ ws ∷ fs) tb n b i c e l f t q k z =
+    let r : b < 16 = omega (arith, q .agents) in
+    let m = give-row n (b + 1) i b′ ws fs q in
+    let s : b ≡ b + 1 - 1 = omega arith in
+    go (rowReply (rowIn ws) i c e l) refl
+    (λ h.
+    subst (λ (a : ℕ). TableFacts (loaded (sets (set tb (b + 1) (i + 1)) (rowPlace a i) ws) (b + 1) (i + 1) fs)) s
+    (built fs (after-give tb b i c e l ws t r m (f .0)) (n + 1) b (i + 1) c (rowIn ws .early) (rowIn ws .late) (f .1)
+    (given tb b i c e l ws t r m (f .0) h) (give-on n (b + 1) i b′ ws fs q) (omega arith)
+    (ap (λ (v : Told). v .reply) (sym (good-row n c i e l b′ ws fs h)) ∙ z)))
+  where
+    go : (r : ℕ) → rowReply (rowIn ws) i c e l ≡ r → (rowReply (rowIn ws) i c e l ≡ 0 → TableFacts (loaded tb (b + 1) i (gives b′ ws ∷ fs)))
+        → TableFacts (loaded tb (b + 1) i (gives b′ ws ∷ fs))
+    go zero h rec = rec h
+    go (suc r) h rec =
+        let y = ap (λ (v : Told). v .reply) (sym (bad-row n c i e l b′ ws fs (suc r) h (λ u. omega arith))) ∙ z in absurd (omega arith)
+
+-- the first line opens agent 0
+first-built : (tb : List ℕ) (fs : List Frame) → Closed tb 0 → Fours fs → Placed 1 0 0 fs → rowsGood 1 0 0 0 0 fs .reply ≡ 0 → TableFacts (loaded tb 0 0 fs)
+unfolding inPlace rowsGood loaded after-open
+first-built tb [] t f q z = absurd (let y = q .placed in omega arith)
+first-built tb (malformed ∷ fs) t f q z = absurd (let y = q .placed in omega arith)
+first-built tb (ends ∷ fs) t f q z = absurd (let y = q .placed in omega arith)
+first-built tb (gives b ws ∷ fs) t f q z = absurd (let y = give-agent 1 0 0 b ws fs q in omega arith)
+first-built tb (opens b ws ∷ fs) t f q z =
+    let r = open-agent 1 0 0 b ws fs q in
+    built fs (after-open tb 0 ws t r (f .0)) 2 0 0 (rowsNext fs) 0 0 (f .1)
+    (opened tb 0 ws t r (f .0) (rowsNext fs)) (open-on 1 0 0 b ws fs q) (omega arith) z
+
+zeros : (n k : ℕ) → _≡_ {A = ℕ} (getD (replicate n 0) k 0) 0
+zeros zero k = refl
+zeros (suc n) zero = refl
+zeros (suc n) (suc k) = zeros n k
+
+no-agents : (n : ℕ) → n ≡ tableWords → Closed (replicate n 0) 0
+no-agents n e = record {
+  words = length-replicate {A = ℕ} n 0 ∙ e;
+  done = λ b h. absurd (omega arith);
+  counts-past = λ k h l. zeros n k;
+  registers-past = λ k h l. zeros n k;
+  rows-past = λ k h l. zeros n k;
+}
+
+frame-four : (l : List ℕ) → Four (frameOf l)
+unfolding frameOf fourWords
+frame-four l = go (same l endLine) (digitsLine 36 l) (eqb (field l 0 2) 0x00) (eqb (field l 0 2) 0x01)
+  where
+    go : (e d z o : Bool)
+        → Four (cond e ends (cond d (cond z (opens (field l 2 2) (fourWords l)) (cond o (gives (field l 2 2) (fourWords l)) malformed)) malformed))
+    go true d z o = tt
+    go false false z o = tt
+    go false true true o = refl
+    go false true false true = refl
+    go false true false false = tt
+
+frames-four : (ls : List (List ℕ)) → Fours (map frameOf ls)
+frames-four [] = tt
+frames-four (l ∷ ls) = (frame-four l, frames-four ls)
+
+-- ---- what `read` accepts, `check` accepts
+
+loaded-length : (fs : List Frame) (tb : List ℕ) (a i : ℕ) → length (loaded tb a i fs) ≡ length tb
+unfolding loaded
+loaded-length [] tb a i = refl
+loaded-length (opens b ws ∷ fs) tb a i =
+    loaded-length fs (sets (set tb 0 (a + 1)) (startPlace a) ws) (a + 1) 0
+    ∙ length-sets (set tb 0 (a + 1)) (startPlace a) ws
+    ∙ length-set tb 0 (a + 1)
+loaded-length (gives b ws ∷ fs) tb a i =
+    loaded-length fs (sets (set tb a (i + 1)) (rowPlace (a - 1) i) ws) a (i + 1)
+    ∙ length-sets (set tb a (i + 1)) (rowPlace (a - 1) i) ws
+    ∙ length-set tb a (i + 1)
+loaded-length (ends ∷ fs) tb a i = refl
+loaded-length (malformed ∷ fs) tb a i = refl
+
+pub table-length : (fs : List Frame) → length (tableOf fs) ≡ tableWords
+unfolding tableOf
+table-length fs = loaded-length fs (replicate tableWords 0) 0 0 ∙ length-replicate {A = ℕ} tableWords 0
+
+pub read-good : (text : List ℕ) → framesReply (framesOf text) .reply ≡ 0 → goodTable (tableOf (framesOf text)) ≡ true
+unfolding tableOf framesOf
+read-good text h =
+    let fs = framesOf text in
+    let p = accepted-placed fs h in
+    let z = ap (λ (v : Told). v .reply) (sym (in-places fs p)) ∙ h in
+    table-good (tableOf fs) (first-built (replicate tableWords 0) fs (no-agents tableWords refl) (frames-four (lines text)) (placed-first fs p) z)
+
+pub read-checked : (text tb : List ℕ) (t : Told) (after : List ℕ) → Read text tb t after → t .reply ≡ 0 → Checked after 0
+read-checked text tb t after r z =
+    let q = accepted-read text tb t after r z in
+    let n = table-length (framesOf text) in
+    let w : after ≡ tableOf (framesOf text) ++ drop tableWords tb = q .1 in
+    let k : take tableWords after ≡ tableOf (framesOf text) = ap (take tableWords) w ∙ take-at (tableOf (framesOf text)) (drop tableWords tb) tableWords n in
+    let m : length after ≡ length (tableOf (framesOf text)) + length (drop tableWords tb) = ap length w ∙ length-append (tableOf (framesOf text)) (drop tableWords tb) in
+    sym (good-checked after (omega arith) (ap goodTable k ∙ read-good text (q .0)))

@@ -1,0 +1,70 @@
+-- The reader of frames: replies 2 and 3 with their line, then 4 to 7, and the table's words. Assumes nothing.
+use mathlib.Core.Bool.{Bool, true, false, _&&_, _||_, cond}
+use mathlib.Core.List.{List, [], _∷_}
+use Prim.Native.Nat.{ℕ, zero, suc, _+_, _-_}
+use lib.Dec.{ltb, eqb}
+use lib.ListN.{getD, set, replicate}
+use lib.Seq.{sets}
+use Rattle.tables.specs.Frames.{Frame, opens, gives, ends, malformed}
+use Rattle.tables.specs.Layout.{rowOf, rowPlace, startPlace, tableWords}
+use Rattle.tables.specs.Rows.{rowReply}
+use Rattle.tables.specs.declared.Row.{Row}
+use Rattle.reading.specs.declared.Told.{Told}
+
+abbrev pub told : ℕ → ℕ → Told
+told r n = record { reply = r; line = n }
+
+abbrev pub noneLeft : List Frame → Bool
+noneLeft [] = true
+noneLeft (f ∷ fs) = false
+
+-- 2 and 3. Line n is next, a agents were opened, and the last of them has i rows so far.
+-- After the end line nothing is read: one frame more is 3, also where it is malformed. Text that stops is told as the line after the last.
+unfoldable pub inPlace : (n a i : ℕ) → List Frame → Told
+inPlace n a i [] = told 3 n
+inPlace n a i (malformed ∷ fs) = told 2 n
+inPlace n a i (opens b ws ∷ fs) =
+    elim (eqb b a && ltb a 16 && (eqb a 0 || ltb 0 i)) [ true ↦ inPlace (n + 1) (a + 1) 0 fs | false ↦ told 3 n ]
+inPlace n a i (gives b ws ∷ fs) =
+    elim (eqb (b + 1) a && ltb i 32) [ true ↦ inPlace (n + 1) a (i + 1) fs | false ↦ told 3 n ]
+inPlace n a i (ends ∷ fs) = cond (ltb 0 i) (cond (noneLeft fs) (told 0 0) (told 3 (n + 1))) (told 3 n)
+
+-- the rows that come before the next agent or the end: an agent's row count, where its opening line is passed
+unfoldable pub rowsNext : List Frame → ℕ
+rowsNext [] = 0
+rowsNext (opens b ws ∷ fs) = 0
+rowsNext (gives b ws ∷ fs) = suc (rowsNext fs)
+rowsNext (ends ∷ fs) = 0
+rowsNext (malformed ∷ fs) = 0
+
+-- the row whose four words a frame gives
+abbrev pub rowIn : List ℕ → Row
+rowIn ws = rowOf (getD ws 0 0) (getD ws 1 0) (getD ws 2 0) (getD ws 3 0)
+
+-- 4 to 7. Line n is next, in an agent of c rows of which i were taken, the last with the window from e to l.
+unfoldable pub rowsGood : (n c i e l : ℕ) → List Frame → Told
+rowsGood n c i e l [] = told 0 0
+rowsGood n c i e l (opens b ws ∷ fs) = rowsGood (n + 1) (rowsNext fs) 0 0 0 fs
+rowsGood n c i e l (gives b ws ∷ fs) =
+    elim (rowReply (rowIn ws) i c e l) [
+      | zero ↦ rowsGood (n + 1) c (i + 1) (rowIn ws .early) (rowIn ws .late) fs
+      | suc r ↦ told (suc r) n
+    ]
+rowsGood n c i e l (ends ∷ fs) = told 0 0
+rowsGood n c i e l (malformed ∷ fs) = told 0 0
+
+-- "First all lines are read for 2 and 3 .. Then rows are taken in order for 4, 5, 6, 7."
+unfoldable pub framesReply : List Frame → Told
+framesReply fs = elim (inPlace 1 0 0 fs .reply) [ zero ↦ rowsGood 1 0 0 0 0 fs | suc r ↦ inPlace 1 0 0 fs ]
+
+-- the words tb once the frames are put in, after a agents of which the last has i rows
+unfoldable pub loaded : List ℕ → (a i : ℕ) → List Frame → List ℕ
+loaded tb a i [] = tb
+loaded tb a i (opens b ws ∷ fs) = loaded (sets (set tb 0 (a + 1)) (startPlace a) ws) (a + 1) 0 fs
+loaded tb a i (gives b ws ∷ fs) = loaded (sets (set tb a (i + 1)) (rowPlace (a - 1) i) ws) a (i + 1) fs
+loaded tb a i (ends ∷ fs) = tb
+loaded tb a i (malformed ∷ fs) = tb
+
+-- the 2,129 words of a table that was read: "On success the unused words of the table are set to 0"
+unfoldable pub tableOf : List Frame → List ℕ
+tableOf fs = loaded (replicate tableWords 0) 0 0 fs

@@ -1,0 +1,11 @@
+// The reader of a table's text: replies 1 to 7, each with its line, and the words of a table that is accepted.
+pub mod placing; // placing.rt: replies 2 and 3
+pub mod loading; // loading.rt: frames into the words of a table
+pub mod reading; // reading.rt: the reader
+
+// A reply, with the number of the line that it tells, from 1, or 0.
+#[repr(C)]
+pub struct Told {
+    pub reply: u32,
+    pub line: u32,
+}

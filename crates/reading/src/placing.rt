@@ -1,0 +1,108 @@
+// Replies 2 and 3: the lines of a text in their places.
+use crate::Told;
+use tables::frames::Line;
+use tables::frames::line_at;
+use tables::replies::ACCEPTED;
+use tables::replies::MALFORMED;
+use tables::replies::OUT_OF_PLACE;
+ghost use mathlib.Core.Path.{_≡_};
+ghost use mathlib.Core.Bool.{_&&_, _||_};
+ghost use Prim.Native.Nat.{_+_};
+ghost use lib.Dec.{eqb, ltb};
+ghost use Rattle.tables.specs.Frames.{framesOf};
+ghost use Rattle.reading.specs.Reader.{inPlace};
+
+// Whether agent b may be opened after a agents, the last of which has i rows.
+fn may_open(b: u32, a: u32, i: u32) -> bool
+    ensures { λ r. ⌜ r ≡ (eqb b a && ltb a 16 && (eqb a 0 || ltb 0 i)) ⌝ }
+{
+    if b != a {
+        return false;
+    }
+    if 16 <= a {
+        return false;
+    }
+    if a == 0 {
+        return true;
+    }
+    0 < i
+}
+
+// Whether agent b may be given a row after a agents, the last of which has i rows.
+fn may_give(b: u32, a: u32, i: u32) -> bool
+    ensures { λ r. ⌜ r ≡ (eqb (b + 1) a && ltb i 32) ⌝ }
+{
+    if a == 0 {
+        return false;
+    }
+    if b != a - 1 {
+        return false;
+    }
+    i < 32
+}
+
+// Replies 2 and 3, or 0. At most 16 agents of 32 rows are passed, so the lines can be counted.
+pub fn in_place(text: &[u8]) -> Told
+    ensures { λ r. ⌜ r ≡ inPlace 1 0 0 (framesOf (now (text .entry))) ⌝ }
+{
+    let mut p = 0;
+    let mut n = 1;
+    let mut a = 0;
+    let mut i = 0;
+    while p < text.len() {
+        let line = line_at(text, p);
+        match line {
+            Line::Opens(b) => {
+                if !may_open(b, a, i) {
+                    return Told {
+                        reply: OUT_OF_PLACE,
+                        line: n,
+                    };
+                }
+                a += 1;
+                i = 0;
+                n += 1;
+                p += 37;
+            }
+            Line::Gives(b) => {
+                if !may_give(b, a, i) {
+                    return Told {
+                        reply: OUT_OF_PLACE,
+                        line: n,
+                    };
+                }
+                i += 1;
+                n += 1;
+                p += 37;
+            }
+            Line::Ends => {
+                if i == 0 {
+                    return Told {
+                        reply: OUT_OF_PLACE,
+                        line: n,
+                    };
+                }
+                if p + 3 < text.len() {
+                    return Told {
+                        reply: OUT_OF_PLACE,
+                        line: n + 1,
+                    };
+                }
+                return Told {
+                    reply: ACCEPTED,
+                    line: 0,
+                };
+            }
+            Line::Malformed => {
+                return Told {
+                    reply: MALFORMED,
+                    line: n,
+                };
+            }
+        }
+    }
+    Told {
+        reply: OUT_OF_PLACE,
+        line: n,
+    }
+}
