@@ -10,18 +10,19 @@ use lib.Dec.{eqb}
 use lib.ListN.{length, take, drop, getD, set, length-take, length-drop, length-set, drop-of-length-le}
 use lib.Seq.{drop-cons, getD-set-same, getD-set-other, ext-getD}
 use Rattle.tables.specs.Table.{goodTable}
-use Rattle.executive.specs.declared.Agent.{Agent}
-use Rattle.executive.specs.State.{agentAt, regPlace}
-use Rattle.executive.specs.Fit.{fits}
-use Rattle.executive.specs.Step.{choiceReply, accepted}
-use Rattle.executive.specs.Registers.{around, listed, register, withRegs, ChoiceOutcome, chosen, chooseInto, wordsAfter}
+use Rattle.choices.specs.declared.Agent.{Agent}
+use Rattle.choices.specs.State.{agentAt, regPlace}
+use Rattle.choices.specs.Fit.{fits}
+use Rattle.choices.specs.Step.{choiceReply, accepted}
+use Rattle.choices.specs.Registers.{around, listed, register, withRegs, ChoiceOutcome, chosen, chooseInto}
 use Rattle.executive.specs.Run.{RunOutcome, ended, runFrom}
-use Rattle.executive.proofs.Lists.{getD-part}
-use Rattle.executive.proofs.After.{accepted-length, accepted-other}
+use Rattle.choices.proofs.Lists.{getD-part}
+use Rattle.choices.proofs.After.{accepted-length, accepted-other}
 use Rattle.executive.proofs.Fitting.{fits-says}
+use Rattle.executive.proofs.Outcomes.{wordsAfter}
 use Rattle.executive.proofs.Runs.{run-go, run-stop, count-within}
-use Rattle.executive.proofs.Around.{listed-length, listed-at, around-length, around-own, around-around}
-use Rattle.executive.proofs.Choosing.{whole-length, whole-register, by-reply, chosen-low}
+use Rattle.choices.proofs.Around.{listed-length, listed-at, around-length, around-own, around-around}
+use Rattle.choices.proofs.Choosing.{whole-length, whole-register, by-reply, chosen-low}
 
 -- ---- the choices left
 

@@ -3,12 +3,12 @@ use mathlib.Core.Path.{_≡_, refl, sym, ap, _∙_}
 use mathlib.Core.List.{List, []}
 use Prim.Native.Nat.{ℕ, zero, suc, _<_}
 use lib.ListN.{length, set}
-use Rattle.executive.specs.declared.Agent.{Agent}
-use Rattle.executive.specs.State.{agentAt}
-use Rattle.executive.specs.Step.{choiceReply, accepted}
+use Rattle.choices.specs.declared.Agent.{Agent}
+use Rattle.choices.specs.State.{agentAt}
+use Rattle.choices.specs.Step.{choiceReply, accepted}
 use Rattle.executive.specs.Run.{RunOutcome, runFrom}
-use Rattle.executive.specs.Registers.{withRegs, ChoiceOutcome, chosen, chooseInto}
-use Rattle.executive.proofs.Choosing.{by-reply}
+use Rattle.choices.specs.Registers.{withRegs, ChoiceOutcome, chosen, chooseInto}
+use Rattle.choices.proofs.Choosing.{by-reply}
 use Rattle.executive.proofs.Runs.{run-go}
 use Rattle.executive.proofs.RunOn.{accepted-run}
 

@@ -13,7 +13,7 @@ use Rattle.tables.specs.Reader.{framesReply, tableOf}
 use Rattle.tables.specs.Calls.{ReadOutcome, Read}
 use Rattle.tables.specs.declared.Told.{Told}
 use Rattle.tables.proofs.ReadGood.{table-length, read-good}
-use Rattle.executive.specs.State.{startWords}
+use Rattle.choices.specs.State.{startWords}
 use Rattle.traces.specs.Input.{longestInput, tableBytes, tableText, choiceLines, badChoice, badChoiceOf, choicesIn}
 use Rattle.traces.specs.Output.{traced, lastLine, traceFrom, traceOf}
 use Rattle.traces.proofs.Choices.{bad-any}

@@ -4,9 +4,9 @@ use Prim.Native.Nat.{_-_}
 use native.Mathlib.Omega.{arith}
 use lib.ListN.{length}
 use Rattle.tables.proofs.Good.{few}
-use Rattle.executive.specs.Registers.{withRegs}
+use Rattle.choices.specs.Registers.{withRegs}
 use Rattle.executive.specs.Run.{ended}
-use Rattle.executive.proofs.Choosing.{whole-length, chosen-low, refuses}
+use Rattle.choices.proofs.Choosing.{whole-length, chosen-low, refuses}
 use Rattle.executive.proofs.RunOn.{Left, turn-ends, turn-count, turn-goes, none-left}
 use Rattle.executive.proofs.running.work_out.Statement.{statement}
 use Rattle.executive.proofs.running.work_out.Tie as tie

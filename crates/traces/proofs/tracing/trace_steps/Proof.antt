@@ -7,9 +7,9 @@ use mathlib.Core.Bool.{true}
 use Prim.Native.Nat.{_+_, _-_, _≤_, _<_}
 use lib.ListN.{length, length-set}
 use Rattle.tables.proofs.Heads.{field-asks}
-use Rattle.executive.specs.Step.{choiceReply, accepted}
-use Rattle.executive.specs.Registers.{withRegs}
-use Rattle.executive.proofs.Choosing.{whole-length}
+use Rattle.choices.specs.Step.{choiceReply, accepted}
+use Rattle.choices.specs.Registers.{withRegs}
+use Rattle.choices.proofs.Choosing.{whole-length}
 use Rattle.traces.specs.Places.{choiceAt}
 use Rattle.traces.proofs.Choices.{choice-digits, choice-room}
 use Rattle.traces.proofs.Chosen.{chosen-reply, chosen-agent, chosen-state}
