@@ -2,7 +2,8 @@
 use crate::TraceReply;
 use crate::writing::put_last_line;
 use crate::writing::put_step_line;
-use choices::stepping::choose;
+use choices::stepping::act;
+use choices::stepping::choice_reply;
 use executive::registers::load_registers;
 use executive::starting::put_start;
 use tables::frames::field;
@@ -53,13 +54,15 @@ pub fn trace_steps(choices: &[u8], table: &[u32], out: &mut [u8]) -> TraceReply
     while at < choices.len() {
         let a = field(choices, at + 2, 2);
         let t = field(choices, at + 4, 8);
-        let chosen = choose(table, &mut state, regs, a, t);
-        if chosen.reply != ACCEPTED {
-            return finish(out, end, chosen.reply, n);
+        let reply = choice_reply(table, &state, a, t);
+        if reply != ACCEPTED {
+            return finish(out, end, reply, n);
         }
-        let agent = chosen.agent;
-        let own = agent.regs;
-        regs[a as usize] = own;
+        let b = a as usize;
+        let own = regs[b];
+        let agent = act(table, &mut state, b, t, own);
+        let new = agent.regs;
+        regs[b] = new;
         put_step_line(out, end, a, t, agent);
         n += 1;
         at += 13;
