@@ -21,7 +21,7 @@ use Rattle.choices.specs.Messages.{best}
 use Rattle.choices.specs.Effect.{after}
 use Rattle.choices.specs.Fit.{unfinished, current, inTime}
 use Rattle.choices.specs.Step.{choiceReply, stuck, canGo, accepted, withAgent, withSent}
-use Rattle.choices.specs.Registers.{around, listed, register, withRegs, ChoiceOutcome, chosen, nobody, chooseInto}
+use Rattle.choices.specs.Registers.{around, listed, register, withRegs, acted, actInto}
 use Rattle.choices.proofs.Lists.{getD-part}
 use Rattle.choices.proofs.Around.{listed-length, listed-at, around-length, around-low, around-mid, around-high, around-own, around-around, around-set, around-sets}
 use Rattle.choices.proofs.Choice.{allowed}
@@ -173,25 +173,7 @@ module _ (ws m : List ℕ) (long : length ws ≡ 1105) (full : length m ≡ 64) 
   unfolding withAgent
   with-agent-length q = simp (length-sets, length-set) long
 
--- ---- how a choice ends, by its reply
-
-module _ (tb st : List ℕ) (g : List (List ℕ)) (a t : ℕ) where
-  abbrev new : List ℕ
-  new = accepted tb (withRegs st g) a t
-
-  pub by-reply : (r : ℕ) → choiceReply tb (withRegs st g) a t ≡ r
-      → chooseInto tb st g a t ≡ elim r as (λ _. ChoiceOutcome) [
-        | zero ↦ chosen 0 (agentAt new a) (around new (take 64 (drop 17 st)))
-        | suc r ↦ chosen (suc r) nobody st
-      ]
-  unfolding chooseInto
-  by-reply r h =
-      ap
-      (λ (x : ℕ). elim x as (λ _. ChoiceOutcome) [
-        | zero ↦ chosen 0 (agentAt new a) (around new (take 64 (drop 17 st)))
-        | suc r ↦ chosen (suc r) nobody st
-      ])
-      h
+-- ---- the choice
 
 module _ (tb st : List ℕ) (g : List (List ℕ)) (long : length st ≡ 1105) (few : agents tb ≤ 16) (a t : ℕ) where
   abbrev own : List ℕ
@@ -202,10 +184,6 @@ module _ (tb st : List ℕ) (g : List (List ℕ)) (long : length st ≡ 1105) (f
 
   pub reply-whole : choiceReply tb (withRegs st g) a t ≡ choiceReply tb st a t
   reply-whole = reply-same tb (withRegs st g) st few (whole-low st g long) a t
-
-  pub refuses : (r : ℕ) → choiceReply tb st a t ≡ r → (r ≡ 0 → ⊥) → chosen r nobody st ≡ chooseInto tb st g a t
-  refuses zero h n = absurd (n refl)
-  refuses (suc r) h n = sym (by-reply tb st g a t (suc r) (reply-whole ∙ h))
 
   module _ (low : a < 16) (four : length (getD g a []) ≡ 4) (within : pos st a < 32) where
     around-step : around (accepted tb (withRegs st g) a t) own
@@ -225,27 +203,17 @@ module _ (tb st : List ℕ) (g : List (List ℕ)) (long : length st ≡ 1105) (f
         ∙ ap (λ (l : List ℕ). set l 0 t)
         (around-around st (listed (register g) 64) own (omega arith) (listed-length (register g) 64) own-length ∙ around-own st (omega arith))))
 
-    pub accepts : choiceReply tb st a t ≡ 0
-        → chosen 0 (moved st g long a low four tb t) (withSent (set (set st 0 t) (posPlace a) (moved st g long a low four tb t .pos)) a (row tb a (pos st a)) (self st g long a low four))
-        ≡ chooseInto tb st g a t
-    accepts h = sym (by-reply tb st g a t 0 (reply-whole ∙ h) ∙ ap₂ (chosen 0) (self-after st g long a low four tb t) around-step)
-
-    -- the same, by what is made on the way: the row r, the agent q after it, the words ws
-    pub made : (n : ℕ) (r : Row) (q : Agent) (ws : List ℕ) → choiceReply tb st a t ≡ 0 → n ≡ 0 → r ≡ row tb a (pos st a)
-        → q ≡ after r (best tb (pool st) r) (self st g long a low four) → ws ≡ withSent (set (set st 0 t) (posPlace a) (q .pos)) a r (self st g long a low four)
-        → chosen n q ws ≡ chooseInto tb st g a t
-    made n r q ws h en er eq ew =
-        let s = self st g long a low four in
-        let fq : q ≡ moved st g long a low four tb t = eq ∙ ap (λ (x : Row). after x (best tb (pool st) x) s) er in
-        let fw : ws ≡ withSent (set (set st 0 t) (posPlace a) (moved st g long a low four tb t .pos)) a (row tb a (pos st a)) s =
-        ew ∙ ap₂ (λ (x : Row) (y : Agent). withSent (set (set st 0 t) (posPlace a) (y .pos)) a x s) er fq in
-        ap (λ (k : ℕ). chosen k q ws) en ∙ ap₂ (chosen 0) fq fw ∙ accepts h
-
-    -- the same, where the agent's registers are o
-    pub acted : (o : List ℕ) → getD g a [] ≡ o → (r : Row) (q : Agent) (ws : List ℕ) → choiceReply tb st a t ≡ 0 → r ≡ row tb a (pos st a)
+    -- what is made on the way, where the agent's registers are o: the row r, the agent q after it, the words ws
+    pub act-made : (o : List ℕ) → getD g a [] ≡ o → (r : Row) (q : Agent) (ws : List ℕ) → r ≡ row tb a (pos st a)
         → q ≡ after r (best tb (pool st) r) (record { pos = pos st a; regs = o })
-        → ws ≡ withSent (set (set st 0 t) (posPlace a) (q .pos)) a r (record { pos = pos st a; regs = o }) → chosen 0 q ws ≡ chooseInto tb st g a t
-    acted o k r q ws h er eq ew =
-        made 0 r q ws h refl er
-        (eq ∙ ap (λ (l : List ℕ). after r (best tb (pool st) r) (record { pos = pos st a; regs = l })) (sym k))
-        (ew ∙ ap (λ (l : List ℕ). withSent (set (set st 0 t) (posPlace a) (q .pos)) a r (record { pos = pos st a; regs = l })) (sym k))
+        → ws ≡ withSent (set (set st 0 t) (posPlace a) (q .pos)) a r (record { pos = pos st a; regs = o }) → acted q ws ≡ actInto tb st g a t
+    unfolding actInto
+    act-made o k r q ws er eq ew =
+        let s = self st g long a low four in
+        let fq : q ≡ moved st g long a low four tb t =
+        eq ∙ ap₂ (λ (x : Row) (l : List ℕ). after x (best tb (pool st) x) (record { pos = pos st a; regs = l })) er (sym k) in
+        let fw : ws ≡ withSent (set (set st 0 t) (posPlace a) (moved st g long a low four tb t .pos)) a (row tb a (pos st a)) s =
+        ew
+        ∙ ap₂ (λ (x : Row) (y : Agent). withSent (set (set st 0 t) (posPlace a) (y .pos)) a x (record { pos = pos st a; regs = o })) er fq
+        ∙ ap (λ (l : List ℕ). withSent (set (set st 0 t) (posPlace a) (moved st g long a low four tb t .pos)) a (row tb a (pos st a)) (record { pos = pos st a; regs = l })) (sym k) in
+        ap₂ acted (fq ∙ sym (self-after st g long a low four tb t)) (fw ∙ sym around-step)

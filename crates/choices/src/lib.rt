@@ -10,12 +10,6 @@ pub struct Agent {
     pub regs: [u32; 4],
 }
 
-// How a choice ends: its reply, and the agent's state after it, all 0 where it is refused.
-pub struct Chosen {
-    pub reply: u32,
-    pub agent: Agent,
-}
-
 // The best message so far.
 pub enum Best {
     Nothing,

@@ -1,6 +1,5 @@
 // A choice of an agent and a time, of a good table.
 use crate::Agent;
-use crate::Chosen;
 use crate::deadlines::deadline;
 use crate::deadlines::is_stuck;
 use crate::messages::find_best;
@@ -27,7 +26,7 @@ ghost use Rattle.choices.specs.State.{pool, posPlace, stateWords};
 ghost use Rattle.choices.specs.Messages.{best};
 ghost use Rattle.choices.specs.Effect.{after};
 ghost use Rattle.choices.specs.Step.{choiceReply, withSent};
-ghost use Rattle.choices.specs.Registers.{chosen, chooseInto};
+ghost use Rattle.choices.specs.Registers.{acted, actInto};
 
 // The reply to the choice of agent a at time t: 10 to 15, or 0.
 pub fn choice_reply(table: &[u32], state: &[u32], a: u32, t: u32) -> u32
@@ -93,7 +92,7 @@ fn put_choice(state: &mut [u32], a: usize, t: u32, r: Row, s: Agent, p: u32)
 // The accepted choice of agent a at time t, where own are the agent's registers: those among the state's words are neither read nor written.
 pub fn act(table: &[u32], state: &mut [u32], a: usize, t: u32, own: [u32; 4]) -> Agent
     requires { ⌜ (length (now table) ≡ tableWords) × (length (now state) ≡ stateWords) × (goodTable (now table) ≡ true) × (choiceReply (now table) (now state) a t ≡ 0) ⌝ }
-    ensures { λ q. ⌜ ((g : List (List ℕ)) → getD g a [] ≡ own → chosen 0 q (now (state .exit)) ≡ chooseInto (now (table .entry)) (now (state .entry)) g a t) ⌝ }
+    ensures { λ q. ⌜ ((g : List (List ℕ)) → getD g a [] ≡ own → acted q (now (state .exit)) ≡ actInto (now (table .entry)) (now (state .entry)) g a t) ⌝ }
 {
     let s = Agent {
         pos: state[1 + a],
@@ -103,25 +102,4 @@ pub fn act(table: &[u32], state: &mut [u32], a: usize, t: u32, own: [u32; 4]) ->
     let agent = effect(table, state, s, r);
     put_choice(state, a, t, r, s, agent.pos);
     agent
-}
-
-// The choice of agent a at time t, where the registers stand in regs.
-pub fn choose(table: &[u32], state: &mut [u32], regs: [[u32; 4]; 16], a: u32, t: u32) -> Chosen
-    requires { ⌜ (length (now table) ≡ tableWords) × (length (now state) ≡ stateWords) × (goodTable (now table) ≡ true) ⌝ }
-    ensures { λ q. ⌜ chosen (q .reply) (q .agent) (now (state .exit)) ≡ chooseInto (now (table .entry)) (now (state .entry)) regs a t ⌝ }
-{
-    let reply = choice_reply(table, state, a, t);
-    if reply != ACCEPTED {
-        return Chosen {
-            reply,
-            agent: Agent {
-                pos: 0,
-                regs: [0; 4],
-            },
-        };
-    }
-    let b = a as usize;
-    let own = regs[b];
-    let agent = act(table, state, b, t, own);
-    Chosen { reply, agent }
 }

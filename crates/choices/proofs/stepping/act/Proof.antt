@@ -6,7 +6,7 @@ use Prim.Native.Nat.{ℕ}
 use lib.ListN.{length}
 use Rattle.tables.proofs.Good.{few}
 use Rattle.tables.proofs.Families.{x-range}
-use Rattle.choices.proofs.Choosing.{chosen-low, chosen-within, chosen-formed, acted}
+use Rattle.choices.proofs.Choosing.{chosen-low, chosen-within, chosen-formed, act-made}
 use borrow.Author.Needs.{needs}
 use Rattle.choices.proofs.stepping.act.Statement.{statement}
 use Rattle.choices.proofs.stepping.act.Tie as tie
@@ -73,7 +73,7 @@ returns c grid e =
     let tb = g .args .table .now in
     let st = g .args .state .now in
     let low = chosen-low tb st (g .pre .2) (g .args .a) (g .args .t) (g .pre .3) in
-    acted tb st grid (g .pre .1) (few tb (g .pre .2)) (g .args .a) (g .args .t) low (ap length e ∙ g .good .1 .1 .1 .1 .0 .1 .0 .1) (chosen-within tb st (g .pre .2) (g .args .a) (g .args .t) (g .pre .3)) _ e _ _ _ (g .pre .3)
+    act-made tb st grid (g .pre .1) (few tb (g .pre .2)) (g .args .a) (g .args .t) low (ap length e ∙ g .good .1 .1 .1 .1 .0 .1 .0 .1) (chosen-within tb st (g .pre .2) (g .args .a) (g .args .t) (g .pre .3)) _ e _ _ _
     (c .before .before .before .before .before .before .row-at .ensures) (c .before .before .before .before .effect .ensures) (c .before .before .put-choice .ensures)
 
 pub act-spec : {M : Type 1} → statement M

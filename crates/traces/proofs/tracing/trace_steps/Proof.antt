@@ -13,7 +13,7 @@ use Rattle.tables.proofs.Good.{few}
 use Rattle.choices.proofs.Choosing.{whole-length, reply-whole}
 use Rattle.traces.specs.Places.{choiceAt}
 use Rattle.traces.proofs.Choices.{choice-digits, choice-room}
-use Rattle.traces.proofs.Chosen.{chosen-agent, chosen-state}
+use Rattle.executive.proofs.RunOn.{agent-is, whole-after}
 use Rattle.traces.proofs.Going.{Going, is-choice, room, refused, one-more, on, none-left, all-written, low, begin}
 use Rattle.traces.proofs.tracing.trace_steps.Statement.{statement}
 use Rattle.traces.proofs.tracing.trace_steps.Tie as tie
@@ -160,9 +160,9 @@ loop-again c =
     let done = c .before .before .before .before .before .before .act in
     let good = c .before .before .before .before .before .before .before .before .before .before .before .before .before .before .before .before .before .before .before .before .before .before .before .before .before .pre .1 in
     on _ _ _ _ _ _ _ _ _ g (c .before .before .before .before .before .before .before .before .before .before .before .before .before .before .loop-test .taken) _ _ (c .before .before .before .before .before .before .before .before .before .before .before .before .before .field .ensures) (c .before .before .before .before .before .before .before .before .before .before .before .before .field2 .ensures) (said d ∙ z) _ _ _ _ good
-    (whole-length (l .state) (l .regs) (g .state-long)) (chosen-agent _ _ _ _ _ _ _ _ (done .ensures (l .regs) refl) refl) (c .before .before .put-step-line .ensures)
+    (whole-length (l .state) (l .regs) (g .state-long)) (agent-is _ _ _ _ _ _ _ (done .ensures (l .regs) refl)) (c .before .before .put-step-line .ensures)
     (done .kept .1 .0 ∙ g .state-long) (length-set (l .regs) _ _ ∙ g .regs-wide)
-    (chosen-state _ _ _ _ _ _ _ _ (done .ensures (l .regs) refl) refl (g .state-long) (g .regs-wide) (low-agent d z))
+    (whole-after _ _ _ _ _ _ _ (done .ensures (l .regs) refl) (g .state-long) (g .regs-wide) (low-agent d z))
 
 finish-requires-2 : tie.Need-finish-requires-2 Inv-loop μ-loop
 finish-requires-2 c κs = room _ _ _ _ _ _ _ _ _ (c .before .before .loop .inv) (c .before .before .before .before .before .before .before .before .before .before .before .before .pre .3)
