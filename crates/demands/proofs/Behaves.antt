@@ -12,9 +12,9 @@ use lib.ListN.{getD, take, drop}
 use borrow.Author.Tests.{eq-eqb, ne-eqb}
 use Rattle.pharos.specs.Published.{SystemState, Behaviour, first, append, filter}
 use Rattle.tables.proofs.Good.{few}
-use Rattle.executive.specs.declared.Agent.{Agent}
-use Rattle.executive.specs.State.{agentAt}
-use Rattle.executive.specs.Step.{choiceReply, accepted}
+use Rattle.choices.specs.declared.Agent.{Agent}
+use Rattle.choices.specs.State.{agentAt}
+use Rattle.choices.specs.Step.{choiceReply, accepted}
 use Rattle.executive.specs.Run.{RunOutcome, ended, runFrom}
 use Rattle.executive.proofs.Runs.{run-go, run-stop}
 use Rattle.demands.specs.Instance.{published, decode, stateOf}

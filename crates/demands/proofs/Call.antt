@@ -7,8 +7,8 @@ use native.Mathlib.Decide.{ℕ-discrete}
 use native.Mathlib.Omega.{arith}
 use lib.ListN.{length, length-take}
 use Rattle.tables.proofs.Good.{checked-good, good-checked}
-use Rattle.executive.specs.State.{stateWords}
-use Rattle.executive.specs.Step.{choiceReply, accepted}
+use Rattle.choices.specs.State.{stateWords}
+use Rattle.choices.specs.Step.{choiceReply, accepted}
 use Rattle.executive.specs.Calls.{tablePart, statePart, pastState, Outcome, stepReply, stepInto}
 use Rattle.executive.proofs.Ready.{Ready, answer, ready-reply, was-ready, stepped-by, part-is, past-is}
 use Rattle.demands.specs.Reasons.{Reply}

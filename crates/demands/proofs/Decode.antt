@@ -13,9 +13,9 @@ use lib.Seq.{ext-getD, getD-drop}
 use borrow.Author.Tests.{lt-ltb, le-ltb, ltb-true, ne-eqb}
 use Rattle.tables.specs.Layout.{agents}
 use Rattle.tables.proofs.Passed.{and-1, and-2}
-use Rattle.executive.specs.declared.Agent.{Agent}
-use Rattle.executive.specs.State.{pos, mark, value, agentAt, posPlace, regPlace, markPlace, valuePlace}
-use Rattle.executive.proofs.Lists.{getD-part}
+use Rattle.choices.specs.declared.Agent.{Agent}
+use Rattle.choices.specs.State.{pos, mark, value, agentAt, posPlace, regPlace, markPlace, valuePlace}
+use Rattle.choices.proofs.Lists.{getD-part}
 use Rattle.executive.proofs.Fitting.{Fits, Unsent, Sent, any-message}
 use Rattle.demands.specs.Instance.{startOf, agentHeld, rowHeld, stateOf, sentOf}
 

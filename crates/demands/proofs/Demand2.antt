@@ -8,15 +8,14 @@ use lib.ListN.{length, take, drop}
 use Rattle.pharos.specs.Published.{SystemState, executes}
 use Rattle.pharos.specs.Functional.{executes-once}
 use Rattle.tables.specs.Layout.{startPlace}
-use Rattle.executive.specs.State.{pos, startWords, posPlace, regPlace, markPlace}
-use Rattle.executive.specs.Step.{choiceReply, accepted}
-use Rattle.executive.proofs.Lists.{part-same}
-use Rattle.executive.proofs.After.{accepted-clock, accepted-length}
+use Rattle.choices.specs.State.{pos, startWords, posPlace, regPlace, markPlace}
+use Rattle.choices.specs.Step.{choiceReply, accepted, Allowed as Accepts}
+use Rattle.choices.proofs.Lists.{part-same}
+use Rattle.choices.proofs.After.{accepted-clock, accepted-length}
 use Rattle.executive.proofs.Start.{start-length, start-clock, start-low, start-register, start-high}
 use Rattle.executive.proofs.Fitting.{fits-says}
 use Rattle.executive.proofs.Fits.{accepted-fits, start-fits}
-use Rattle.executive.specs.Laws.{Allowed as Accepts}
-use Rattle.executive.proofs.Choice.{allowed, allowed-reply}
+use Rattle.choices.proofs.Choice.{allowed, allowed-reply}
 use Rattle.demands.specs.Reasons.{Allowed}
 use Rattle.demands.specs.Instance.{published, decode, stateOf, startOf}
 use Rattle.demands.specs.Demand2.{ChoiceIsModels, WordsAreModels, StartIsModels}

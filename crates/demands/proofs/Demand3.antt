@@ -8,7 +8,7 @@ use lib.Dec.{leb}
 use borrow.Author.Tests.{le-leb}
 use Rattle.pharos.specs.Behaviours.{determinacy, same-ends}
 use Rattle.tables.specs.Layout.{agents, rows}
-use Rattle.executive.specs.State.{pos}
+use Rattle.choices.specs.State.{pos}
 use Rattle.executive.specs.Run.{runFrom}
 use Rattle.tables.proofs.Good.{few}
 use Rattle.executive.proofs.Fitting.{fits-says}

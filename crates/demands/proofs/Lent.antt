@@ -11,12 +11,12 @@ use borrow.Author.Tests.{ltb-false, le-ltb, ne-eqb, eqb-false, not-false}
 use Rattle.tables.specs.Basics.{first}
 use Rattle.tables.specs.Layout.{agents, rows, tableWords}
 use Rattle.tables.proofs.Passed.{passed as passes}
-use Rattle.executive.specs.declared.Agent.{Agent}
-use Rattle.executive.specs.State.{agentAt, pos, stateWords, startWords, posPlace, regPlace}
+use Rattle.choices.specs.declared.Agent.{Agent}
+use Rattle.choices.specs.State.{agentAt, pos, stateWords, startWords, posPlace, regPlace}
 use Rattle.executive.specs.Run.{RunOutcome, ended, runFrom}
 use Rattle.executive.specs.Calls.{tablePart, statePart, pastState, before, runRefusal, runInto}
 use Rattle.tables.proofs.Good.{few}
-use Rattle.executive.proofs.Lists.{part-same}
+use Rattle.choices.proofs.Lists.{part-same}
 use Rattle.executive.proofs.Ready.{part-is}
 use Rattle.executive.proofs.OneByOne.{ran}
 use Rattle.demands.specs.Demand2.{Table, State}

@@ -11,11 +11,11 @@ use Rattle.tables.specs.Basics.{Rule, _⇒_, first, allBelow}
 use Rattle.tables.specs.Layout.{agents, rows}
 use Rattle.tables.specs.Table.{goodTable}
 use Rattle.tables.proofs.Tests.{and-both}
-use Rattle.executive.specs.State.{clock, pos}
-use Rattle.executive.specs.Fit.{current, inTime, unfinished}
-use Rattle.executive.specs.Step.{choiceReply}
+use Rattle.choices.specs.State.{clock, pos}
+use Rattle.choices.specs.Fit.{current, inTime, unfinished}
+use Rattle.choices.specs.Step.{choiceReply}
 use Rattle.executive.proofs.Stuck.{stuck-exactly}
-use Rattle.executive.proofs.Choice.{in-time}
+use Rattle.choices.proofs.Choice.{in-time}
 use Rattle.demands.specs.Reasons.{Overdue, Reason, Reply, First, reasons}
 use Rattle.demands.specs.Instance.{decode}
 use Rattle.demands.proofs.Decode.{state-low}

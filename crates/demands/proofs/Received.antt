@@ -14,10 +14,10 @@ use Rattle.tables.specs.Table.{goodTable}
 use Rattle.tables.specs.declared.Row.{Row}
 use Rattle.tables.proofs.Tests.{and-both}
 use Rattle.tables.proofs.Passed.{and-1, and-2}
-use Rattle.executive.specs.declared.Best.{Best}
-use Rattle.executive.specs.declared.Best.the-variants.{Nothing, Message}
-use Rattle.executive.specs.State.{mark, value, pool}
-use Rattle.executive.specs.Messages.{visible, best}
+use Rattle.choices.specs.declared.Best.{Best}
+use Rattle.choices.specs.declared.Best.the-variants.{Nothing, Message}
+use Rattle.choices.specs.State.{mark, value, pool}
+use Rattle.choices.specs.Messages.{visible, best}
 use Rattle.tables.proofs.Good.{few}
 use Rattle.executive.proofs.Fitting.{Fits, marked}
 use Rattle.executive.specs.Laws.{GoesBefore, Taken}

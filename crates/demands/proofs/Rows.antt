@@ -11,11 +11,11 @@ use lib.ListN.{getD}
 use borrow.Author.Tests.{eqb-true, eqb-false, eq-eqb, ne-eqb}
 use Rattle.pharos.specs.Published.{Instruction, local, msgSent, msgAwaited, Messages, except, execIns}
 use Rattle.tables.specs.declared.Row.{Row}
-use Rattle.executive.specs.declared.Agent.{Agent}
-use Rattle.executive.specs.declared.Best.{Best}
-use Rattle.executive.specs.declared.Best.the-variants.{Nothing, Message}
-use Rattle.executive.specs.Effect.{after, receive as takes}
-use Rattle.executive.proofs.After.{after-on}
+use Rattle.choices.specs.declared.Agent.{Agent}
+use Rattle.choices.specs.declared.Best.{Best}
+use Rattle.choices.specs.declared.Best.the-variants.{Nothing, Message}
+use Rattle.choices.specs.Effect.{after, receive as takes}
+use Rattle.choices.proofs.After.{after-on}
 use Rattle.demands.specs.Instance.{sending, receiving, instructionOf, published}
 
 -- ---- a row is a SEND, a RECV or another, and so is its instruction

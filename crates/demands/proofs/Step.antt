@@ -13,18 +13,17 @@ use borrow.Author.Tests.{lt-leb, leb-false, eq-eqb, ne-eqb}
 use Rattle.pharos.specs.Published.{except, GoodNextTime, Received, exec, executes}
 use Rattle.tables.specs.Layout.{agents, rows}
 use Rattle.tables.specs.Table.{goodTable}
-use Rattle.executive.specs.declared.Agent.{Agent}
-use Rattle.executive.specs.declared.Best.{Best}
-use Rattle.executive.specs.declared.Best.the-variants.{Nothing}
-use Rattle.executive.specs.State.{clock, pos, pool, agentAt}
-use Rattle.executive.specs.Messages.{best}
-use Rattle.executive.specs.Effect.{after}
-use Rattle.executive.specs.Fit.{current}
-use Rattle.executive.specs.Step.{accepted}
+use Rattle.choices.specs.declared.Agent.{Agent}
+use Rattle.choices.specs.declared.Best.{Best}
+use Rattle.choices.specs.declared.Best.the-variants.{Nothing}
+use Rattle.choices.specs.State.{clock, pos, pool, agentAt}
+use Rattle.choices.specs.Messages.{best}
+use Rattle.choices.specs.Effect.{after}
+use Rattle.choices.specs.Fit.{current}
+use Rattle.choices.specs.Step.{accepted, Allowed as Accepts}
 use Rattle.tables.proofs.Good.{few, few-rows}
-use Rattle.executive.specs.Laws.{Allowed as Accepts}
 use Rattle.executive.proofs.Fitting.{Fits}
-use Rattle.executive.proofs.After.{next, accepted-clock, accepted-self, accepted-agent-other, sent-own-mark, sent-own-value, mark-away, value-away, mark-unsent, value-unsent}
+use Rattle.choices.proofs.After.{next, accepted-clock, accepted-self, accepted-agent-other, sent-own-mark, sent-own-value, mark-away, value-away, mark-unsent, value-unsent}
 use Rattle.demands.specs.Reasons.{Allowed, allowed}
 use Rattle.demands.specs.Instance.{published, dated, stateOf, sentOf, decode}
 use Rattle.demands.proofs.Rows.{valueOf, effect, posted, after-other}

@@ -7,12 +7,12 @@ use Rattle.tables.specs.Basics.{first, every, allBelow, allZero, zeroFrom}
 use Rattle.tables.specs.Layout.{rowOf}
 use Rattle.tables.specs.Rows.{rowReply, wellFormed, fieldsFit, namesOf, within}
 use Rattle.tables.specs.Table.{goodTable, goodAgent, goodRows, rowReplyAt, earlyBefore, lateBefore}
-use Rattle.executive.specs.declared.Agent.{Agent}
-use Rattle.executive.specs.State.{startWords}
-use Rattle.executive.specs.Messages.{best, lookAgents, lookRows, look, visible, beats}
-use Rattle.executive.specs.Effect.{after, receive}
-use Rattle.executive.specs.Fit.{inTime, unfinished}
-use Rattle.executive.specs.Step.{choiceReply, stuck, canGo, accepted, withAgent, withSent}
+use Rattle.choices.specs.declared.Agent.{Agent}
+use Rattle.choices.specs.State.{startWords}
+use Rattle.choices.specs.Messages.{best, lookAgents, lookRows, look, visible, beats}
+use Rattle.choices.specs.Effect.{after, receive}
+use Rattle.choices.specs.Fit.{inTime, unfinished}
+use Rattle.choices.specs.Step.{choiceReply, stuck, canGo, accepted, withAgent, withSent}
 use Rattle.executive.specs.Run.{runFrom}
 use Rattle.executive.specs.Calls.{runInto, runRefusal}
 use Rattle.demands.specs.Runs.{comesTo, passed}

@@ -10,9 +10,9 @@ use Rattle.pharos.specs.Published.{SystemState, executes, Init}
 use Rattle.tables.specs.Layout.{tableWords}
 use Rattle.tables.specs.Table.{goodTable}
 use Rattle.tables.specs.Calls.{checkReply}
-use Rattle.executive.specs.State.{stateWords, startWords}
-use Rattle.executive.specs.Fit.{fits}
-use Rattle.executive.specs.Step.{choiceReply, accepted}
+use Rattle.choices.specs.State.{stateWords, startWords}
+use Rattle.choices.specs.Fit.{fits}
+use Rattle.choices.specs.Step.{choiceReply, accepted}
 use Rattle.executive.specs.Calls.{tablePart, statePart, pastState, stepInto}
 use Rattle.demands.specs.Reasons.{Allowed, Reply}
 use Rattle.demands.specs.Instance.{published, decode}

@@ -6,8 +6,8 @@ use Prim.Native.Nat.{ℕ, _≤_, _<_}
 use lib.ListN.{length, drop}
 use Rattle.pharos.specs.Tail.{Prefix}
 use Rattle.tables.specs.Layout.{agents, rows}
-use Rattle.executive.specs.declared.Agent.{Agent}
-use Rattle.executive.specs.State.{pos, stateWords}
+use Rattle.choices.specs.declared.Agent.{Agent}
+use Rattle.choices.specs.State.{pos, stateWords}
 use Rattle.executive.specs.Run.{runFrom}
 use Rattle.executive.specs.Calls.{tablePart, statePart, runRefusal, runInto}
 use Rattle.demands.specs.Demand2.{Table, State}

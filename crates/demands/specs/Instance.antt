@@ -8,10 +8,10 @@ use lib.ListN.{getD, take, drop}
 use Rattle.pharos.specs.Published.{Instruction, local, send, receive, Dated, exact, Messages, Types, SystemState}
 use Rattle.tables.specs.Layout.{agents, rows, row, startPlace}
 use Rattle.tables.specs.declared.Row.{Row}
-use Rattle.executive.specs.declared.Agent.{Agent}
-use Rattle.executive.specs.declared.Best.the-variants.{Nothing}
-use Rattle.executive.specs.State.{clock, mark, value, agentAt}
-use Rattle.executive.specs.Effect.{goTo, put, after}
+use Rattle.choices.specs.declared.Agent.{Agent}
+use Rattle.choices.specs.declared.Best.the-variants.{Nothing}
+use Rattle.choices.specs.State.{clock, mark, value, agentAt}
+use Rattle.choices.specs.Effect.{goTo, put, after}
 
 -- SEND x, k: "the value of x is sent under message number k", and on at p+1
 abbrev pub sending : Row → Instruction Agent

@@ -8,8 +8,8 @@ use lib.Dec.{eqb}
 use lib.ListN.{take, drop, getD}
 use Rattle.pharos.specs.Published.{Types, SystemState, Behaviour, first, append, filter}
 use Rattle.tables.specs.Layout.{agents}
-use Rattle.executive.specs.declared.Agent.{Agent}
-use Rattle.executive.specs.State.{agentAt}
+use Rattle.choices.specs.declared.Agent.{Agent}
+use Rattle.choices.specs.State.{agentAt}
 use Rattle.executive.specs.Run.{RunOutcome, runFrom}
 use Rattle.demands.specs.Reasons.{Reply}
 use Rattle.demands.specs.Instance.{published, decode}

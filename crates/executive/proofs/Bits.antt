@@ -8,9 +8,9 @@ use native.Mathlib.Omega.{arith}
 use lib.ListN.{length, getD}
 use lib.Seq.{getD-set-same}
 use Rattle.tables.specs.declared.Row.{Row}
-use Rattle.executive.specs.declared.Agent.{Agent}
-use Rattle.executive.specs.declared.Best.{Best}
-use Rattle.executive.specs.Effect.{after, put}
+use Rattle.choices.specs.declared.Agent.{Agent}
+use Rattle.choices.specs.declared.Best.{Best}
+use Rattle.choices.specs.Effect.{after, put}
 use Rattle.executive.specs.Laws.{bit, bits, Lowest}
 use lib.Count.{onesIn, trailingZeros, under}
 

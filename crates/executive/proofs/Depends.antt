@@ -10,17 +10,17 @@ use lib.ListN.{length}
 use Rattle.tables.specs.Layout.{agents, rows, row}
 use Rattle.tables.specs.Table.{goodTable}
 use Rattle.tables.specs.declared.Row.{Row}
-use Rattle.executive.specs.State.{pos, mark, Pool, pool, agentAt}
-use Rattle.executive.specs.Messages.{visible, look, lookRows, lookAgents, best}
-use Rattle.executive.specs.Effect.{after}
-use Rattle.executive.specs.Fit.{fits, current}
-use Rattle.executive.specs.Step.{choiceReply, accepted}
-use Rattle.executive.specs.declared.Agent.{Agent}
-use Rattle.executive.specs.declared.Best.{Best}
+use Rattle.choices.specs.State.{pos, mark, Pool, pool, agentAt}
+use Rattle.choices.specs.Messages.{visible, look, lookRows, lookAgents, best}
+use Rattle.choices.specs.Effect.{after}
+use Rattle.choices.specs.Fit.{fits, current}
+use Rattle.choices.specs.Step.{choiceReply, accepted}
+use Rattle.choices.specs.declared.Agent.{Agent}
+use Rattle.choices.specs.declared.Best.{Best}
 use Rattle.executive.specs.Laws.{SameSeen}
 use Rattle.tables.proofs.Good.{few}
-use Rattle.executive.proofs.After.{next, accepted-self}
-use Rattle.executive.proofs.Choice.{allowed}
+use Rattle.choices.proofs.After.{next, accepted-self}
+use Rattle.choices.proofs.Choice.{allowed}
 use Rattle.executive.proofs.Fitting.{Fits, fits-says}
 
 module _ (tb : List ℕ) (p q : Pool) (r : Row) (same : SameSeen tb (λ b. 32) p q r) where

@@ -9,13 +9,12 @@ use native.Mathlib.Omega.{arith}
 use lib.ListN.{length}
 use Rattle.tables.specs.Layout.{agents, rows}
 use Rattle.tables.specs.Table.{goodTable}
-use Rattle.executive.specs.State.{clock, pos, mark, value, posPlace, markPlace, valuePlace, startWords}
-use Rattle.executive.specs.Fit.{fits, current}
-use Rattle.executive.specs.Step.{choiceReply, accepted}
+use Rattle.choices.specs.State.{clock, pos, mark, value, posPlace, markPlace, valuePlace, startWords}
+use Rattle.choices.specs.Fit.{fits, current}
+use Rattle.choices.specs.Step.{choiceReply, accepted, InTime, Allowed}
 use Rattle.tables.proofs.Good.{few, few-rows, table-facts, target, window, late-bound, late-climbs}
-use Rattle.executive.proofs.After.{accepted-other, accepted-clock, accepted-pos-other, pos-rises, pos-within, sent-own-mark, mark-away, value-away, mark-unsent, value-unsent}
-use Rattle.executive.specs.Laws.{InTime, Allowed}
-use Rattle.executive.proofs.Choice.{allowed}
+use Rattle.choices.proofs.After.{accepted-other, accepted-clock, accepted-pos-other, pos-rises, pos-within, sent-own-mark, mark-away, value-away, mark-unsent, value-unsent}
+use Rattle.choices.proofs.Choice.{allowed}
 use Rattle.executive.proofs.Fitting.{Fits, Unsent, Sent, fits-says, fits-holds}
 use Rattle.executive.proofs.Start.{start-clock, start-low, start-register, start-high}
 

@@ -14,12 +14,12 @@ use Rattle.tables.specs.Layout.{agents, rows, row}
 use Rattle.tables.specs.Table.{goodTable}
 use Rattle.tables.proofs.Tests.{and-both, or-left, or-right}
 use Rattle.tables.proofs.Passed.{and-1, and-2, each, below, all-below}
-use Rattle.executive.specs.State.{clock, pos, mark, value, posPlace, regPlace, markPlace, valuePlace}
-use Rattle.executive.specs.Fit.{fits, goodPlaces, goodMark}
+use Rattle.choices.specs.State.{clock, pos, mark, value, posPlace, regPlace, markPlace, valuePlace}
+use Rattle.choices.specs.Fit.{fits, goodPlaces, goodMark}
 use Rattle.tables.proofs.Zeros.{zero-at, zero-all}
 use Rattle.tables.proofs.Good.{few-rows}
-use Rattle.executive.specs.Laws.{InTime}
-use Rattle.executive.proofs.Choice.{in-time, time-in}
+use Rattle.choices.specs.Step.{InTime}
+use Rattle.choices.proofs.Choice.{in-time, time-in}
 
 module _ (tb st : List ℕ) where
   -- nothing is sent from row i of agent b; or it is a SEND row below its agent's position, and is sent

@@ -4,8 +4,8 @@ use Prim.Native.Nat.{_<_}
 use native.Mathlib.Omega.{arith}
 use Rattle.tables.proofs.Good.{few}
 use Rattle.executive.specs.Laws.{Sound, BestIsTaken, NoneIsTaken, NextDepends, AcceptedExactly, StuckExactly, NeverStuck, StartFits, StepKeepsFit, RunIsSteps, RunCounts, OnesAreBits, LowIsLowest, SubIsRemainder}
-use Rattle.executive.proofs.After.{accepted-length}
-use Rattle.executive.proofs.Choice.{allowed, allowed-reply}
+use Rattle.choices.proofs.After.{accepted-length}
+use Rattle.choices.proofs.Choice.{allowed, allowed-reply}
 use Rattle.executive.proofs.Fitting.{fits-says}
 use Rattle.executive.proofs.Start.{start-length}
 use Rattle.executive.proofs.Fits.{start-fits, accepted-fits}

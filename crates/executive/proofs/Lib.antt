@@ -1,7 +1,4 @@
 -- Laws of the definitions, then what the functions' proofs share.
-pub mod Lists
-pub mod After
-pub mod Choice
 pub mod Fitting
 pub mod Start
 pub mod Fits
@@ -14,11 +11,6 @@ pub mod Stuck
 pub mod Depends
 pub mod Bits
 pub mod Laws
-pub mod Effects
-pub mod Deadline
-pub mod Around
-pub mod Choosing
 pub mod Outcomes
 pub mod RunOn
 pub mod Marks
-pub mod Looking

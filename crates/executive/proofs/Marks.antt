@@ -6,8 +6,8 @@ use Prim.Native.Nat.{ℕ}
 use lib.Dec.{eqb}
 use borrow.Author.Tests.{ne-eqb}
 use Rattle.tables.specs.Layout.{row}
-use Rattle.executive.specs.State.{mark, value}
-use Rattle.executive.specs.Fit.{goodMark}
+use Rattle.choices.specs.State.{mark, value}
+use Rattle.choices.specs.Fit.{goodMark}
 
 module _ (tb st : List ℕ) (a i : ℕ) where
   pub by-value : mark st a i ≡ 0 → eqb (value st a i) 0 ≡ goodMark tb st a i

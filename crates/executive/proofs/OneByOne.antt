@@ -9,15 +9,15 @@ use borrow.Author.Tests.{ltb-false, not-false}
 use Rattle.tables.specs.Layout.{tableWords}
 use Rattle.tables.specs.Table.{goodTable}
 use Rattle.tables.proofs.Passed.{passed}
-use Rattle.executive.specs.State.{startWords}
-use Rattle.executive.specs.Fit.{fits}
-use Rattle.executive.specs.Step.{choiceReply, accepted}
+use Rattle.choices.specs.State.{startWords}
+use Rattle.choices.specs.Fit.{fits}
+use Rattle.choices.specs.Step.{choiceReply, accepted}
 use Rattle.executive.specs.Run.{RunOutcome, ended, runFrom}
 use Rattle.executive.specs.Calls.{tablePart, statePart, pastState, Outcome, startInto, stepInto, runRefusal, runInto, before}
 use Rattle.executive.specs.Laws.{oneByOne}
 use Rattle.tables.proofs.Good.{few}
-use Rattle.executive.proofs.After.{accepted-length}
-use Rattle.executive.proofs.Choice.{allowed}
+use Rattle.choices.proofs.After.{accepted-length}
+use Rattle.choices.proofs.Choice.{allowed}
 use Rattle.executive.proofs.Start.{start-length}
 use Rattle.executive.proofs.Fits.{start-fits, accepted-fits}
 use Rattle.executive.proofs.Runs.{run-go, run-stop}

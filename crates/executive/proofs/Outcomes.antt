@@ -1,13 +1,14 @@
 -- A call's outcome by its reply: the words stay where it refuses. Assumes nothing.
 use mathlib.Core.Path.{_≡_, refl, sym, ap, _∙_}
+use mathlib.Core.Bool.{cond}
 use mathlib.Core.List.{List, _++_}
 use Prim.Native.Nat.{ℕ, zero, suc}
 use native.Mathlib.Omega.{arith}
+use lib.Dec.{eqb}
 use lib.ListN.{take-append-drop}
 use borrow.Author.Tests.{eq-eqb, ne-eqb}
-use Rattle.executive.specs.State.{startWords}
-use Rattle.executive.specs.Step.{choiceReply, accepted}
-use Rattle.executive.specs.Registers.{wordsAfter}
+use Rattle.choices.specs.State.{startWords}
+use Rattle.choices.specs.Step.{choiceReply, accepted}
 use Rattle.executive.specs.Run.{RunOutcome, ended, runFrom}
 use Rattle.executive.specs.Calls.{Outcome, outcome, tablePart, statePart, pastState, startReply, startInto, stepReply, stepInto, runRefusal, before, runInto}
 
@@ -27,6 +28,10 @@ module _ (tb st : List ℕ) where
   pub start-goes : 0 ≡ startReply tb st → outcome 0 (startWords (tablePart tb) ++ pastState st) ≡ startInto tb st
   unfolding startInto
   start-goes e = ap (λ (k : ℕ). done k (startWords (tablePart tb) ++ pastState st) st) e
+
+-- the state's words after a choice: as they were where it is refused
+unfoldable pub wordsAfter : (tb st : List ℕ) (a t : ℕ) → List ℕ
+wordsAfter tb st a t = cond (eqb (choiceReply tb st a t) 0) (accepted tb st a t) st
 
 module _ (tb st : List ℕ) (a t : ℕ) where
   abbrev stepped : List ℕ

@@ -14,13 +14,13 @@ use Rattle.tables.specs.Basics.{first}
 use Rattle.tables.specs.Layout.{tableWords}
 use Rattle.tables.specs.Table.{goodTable}
 use Rattle.tables.proofs.Passed.{passed}
-use Rattle.executive.specs.State.{stateWords, startWords}
-use Rattle.executive.specs.Fit.{fits}
-use Rattle.executive.specs.Step.{choiceReply, accepted}
+use Rattle.choices.specs.State.{stateWords, startWords}
+use Rattle.choices.specs.Fit.{fits}
+use Rattle.choices.specs.Step.{choiceReply, accepted}
 use Rattle.executive.specs.Calls.{tablePart, statePart, pastState, Outcome, outcome, startReply, startInto, stepReply, stepInto}
 use Rattle.tables.proofs.Good.{few}
-use Rattle.executive.proofs.After.{accepted-length}
-use Rattle.executive.proofs.Choice.{allowed, lacking}
+use Rattle.choices.proofs.After.{accepted-length}
+use Rattle.choices.proofs.Choice.{allowed, lacking}
 use Rattle.executive.proofs.Start.{start-length}
 use Rattle.executive.proofs.Fits.{start-fits, accepted-fits}
 

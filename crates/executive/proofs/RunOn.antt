@@ -10,18 +10,19 @@ use lib.Dec.{eqb}
 use lib.ListN.{length, take, drop, getD, set, length-take, length-drop, length-set, drop-of-length-le}
 use lib.Seq.{drop-cons, getD-set-same, getD-set-other, ext-getD}
 use Rattle.tables.specs.Table.{goodTable}
-use Rattle.executive.specs.declared.Agent.{Agent}
-use Rattle.executive.specs.State.{agentAt, regPlace}
-use Rattle.executive.specs.Fit.{fits}
-use Rattle.executive.specs.Step.{choiceReply, accepted}
-use Rattle.executive.specs.Registers.{around, listed, register, withRegs, ChoiceOutcome, chosen, chooseInto, wordsAfter}
+use Rattle.choices.specs.declared.Agent.{Agent}
+use Rattle.choices.specs.State.{agentAt, regPlace}
+use Rattle.choices.specs.Fit.{fits}
+use Rattle.choices.specs.Step.{choiceReply, accepted}
+use Rattle.choices.specs.Registers.{around, listed, register, withRegs, Acted, acted, actInto}
 use Rattle.executive.specs.Run.{RunOutcome, ended, runFrom}
-use Rattle.executive.proofs.Lists.{getD-part}
-use Rattle.executive.proofs.After.{accepted-length, accepted-other}
+use Rattle.choices.proofs.Lists.{getD-part}
+use Rattle.choices.proofs.After.{accepted-length, accepted-other}
 use Rattle.executive.proofs.Fitting.{fits-says}
+use Rattle.executive.proofs.Outcomes.{wordsAfter}
 use Rattle.executive.proofs.Runs.{run-go, run-stop, count-within}
-use Rattle.executive.proofs.Around.{listed-length, listed-at, around-length, around-own, around-around}
-use Rattle.executive.proofs.Choosing.{whole-length, whole-register, by-reply, chosen-low}
+use Rattle.choices.proofs.Around.{listed-length, listed-at, around-length, around-own, around-around}
+use Rattle.choices.proofs.Choosing.{whole-length, whole-register, chosen-low}
 
 -- ---- the choices left
 
@@ -39,53 +40,30 @@ module _ (cs : List ℕ) (i : ℕ) where
 -- ---- one choice
 
 module _ (tb st : List ℕ) (g : List (List ℕ)) (a t : ℕ) where
-  reply-is : chooseInto tb st g a t .reply ≡ choiceReply tb (withRegs st g) a t
-  reply-is = go (choiceReply tb (withRegs st g) a t) refl
-    where
-      go : (r : ℕ) → choiceReply tb (withRegs st g) a t ≡ r → chooseInto tb st g a t .reply ≡ r
-      go zero h = ap (λ (o : ChoiceOutcome). o .reply) (by-reply tb st g a t zero h)
-      go (suc r) h = ap (λ (o : ChoiceOutcome). o .reply) (by-reply tb st g a t (suc r) h)
+  -- a refusal ends the run
+  pub refused-run : (r : ℕ) → choiceReply tb (withRegs st g) a t ≡ r → (r ≡ 0 → ⊥) → (n : ℕ) (cs : List ℕ) → runFrom tb (withRegs st g) n (a ∷ t ∷ cs) ≡ ended r n (withRegs st g)
+  refused-run zero h k n cs = absurd (k refl)
+  refused-run (suc r) h k n cs = run-stop tb (withRegs st g) n a t cs r h
 
-  module _ (r : ℕ) (q : Agent) (ws : List ℕ) (e : chosen r q ws ≡ chooseInto tb st g a t) where
-    pub chosen-reply : choiceReply tb (withRegs st g) a t ≡ r
-    chosen-reply = sym (ap (λ (o : ChoiceOutcome). o .reply) e ∙ reply-is)
+  -- an accepted choice goes on with its agent's registers put in
+  module _ (q : Agent) (ws : List ℕ) (e : acted q ws ≡ actInto tb st g a t) where
+    abbrev after : List ℕ
+    after = accepted tb (withRegs st g) a t
 
-    -- a refusal leaves the words, and ends the run
-    pub refused-words : (r ≡ 0 → ⊥) → ws ≡ st
-    refused-words k = go r refl
-      where
-        go : (m : ℕ) → r ≡ m → ws ≡ st
-        go zero z = absurd (k z)
-        go (suc m) z = ap (λ (o : ChoiceOutcome). o .state) (e ∙ by-reply tb st g a t (suc m) (chosen-reply ∙ z))
+    pub agent-is : q ≡ agentAt after a
+    unfolding actInto
+    agent-is = ap (λ (o : Acted). o .agent) e
 
-    pub refused-run : (n : ℕ) (cs : List ℕ) → (r ≡ 0 → ⊥) → runFrom tb (withRegs st g) n (a ∷ t ∷ cs) ≡ ended r n (withRegs ws g)
-    refused-run n cs k = go r refl
-      where
-        go : (m : ℕ) → r ≡ m → runFrom tb (withRegs st g) n (a ∷ t ∷ cs) ≡ ended r n (withRegs ws g)
-        go zero z = absurd (k z)
-        go (suc m) z =
-            run-stop tb (withRegs st g) n a t cs m (chosen-reply ∙ z)
-            ∙ ap₂ (λ (x : ℕ) (l : List ℕ). ended x n (withRegs l g)) (sym z) (sym (refused-words k))
+    words-are : ws ≡ around after (take 64 (drop 17 st))
+    unfolding actInto
+    words-are = ap (λ (o : Acted). o .state) e
 
-    -- an accepted one goes on with its agent's registers put in
-    module _ (z : r ≡ 0) (long : length st ≡ 1105) (wide : length g ≡ 16) (low : a < 16) where
-      abbrev after : List ℕ
-      after = accepted tb (withRegs st g) a t
-
+    module _ (long : length st ≡ 1105) (wide : length g ≡ 16) (low : a < 16) where
       after-length : length after ≡ 1105
       after-length = accepted-length tb (withRegs st g) a t (whole-length st g long) low
 
       own-length : length (take 64 (drop 17 st)) ≡ 64
       own-length = simp (length-take, length-drop) (omega arith)
-
-      goes-on : chosen r q ws ≡ chosen 0 (agentAt after a) (around after (take 64 (drop 17 st)))
-      goes-on = e ∙ by-reply tb st g a t 0 (chosen-reply ∙ z)
-
-      agent-is : q ≡ agentAt after a
-      agent-is = ap (λ (o : ChoiceOutcome). o .agent) goes-on
-
-      words-are : ws ≡ around after (take 64 (drop 17 st))
-      words-are = ap (λ (o : ChoiceOutcome). o .state) goes-on
 
       pub words-length : length ws ≡ 1105
       words-length = ap length words-are ∙ around-length after (take 64 (drop 17 st)) (omega (arith, after-length)) own-length ∙ after-length
@@ -124,8 +102,8 @@ module _ (tb st : List ℕ) (g : List (List ℕ)) (a t : ℕ) where
           ∙ ap (around after) listed-are
           ∙ around-own after (omega (arith, after-length))
 
-      pub accepted-run : (n : ℕ) (cs : List ℕ) → runFrom tb (withRegs st g) n (a ∷ t ∷ cs) ≡ runFrom tb (withRegs ws (set g a (q .regs))) (n + 1) cs
-      accepted-run n cs = run-go tb (withRegs st g) n a t cs (chosen-reply ∙ z) ∙ ap (λ (l : List ℕ). runFrom tb l (n + 1) cs) (sym whole-after)
+      pub accepted-run : choiceReply tb (withRegs st g) a t ≡ 0 → (n : ℕ) (cs : List ℕ) → runFrom tb (withRegs st g) n (a ∷ t ∷ cs) ≡ runFrom tb (withRegs ws (set g a (q .regs))) (n + 1) cs
+      accepted-run h n cs = run-go tb (withRegs st g) n a t cs h ∙ ap (λ (l : List ℕ). runFrom tb l (n + 1) cs) (sym whole-after)
 
 -- ---- one choice alone
 
@@ -176,8 +154,7 @@ pub record Left (tb from cs st : List ℕ) (g : List (List ℕ)) (n i : ℕ) : T
   pub ends : runFrom tb (withRegs st g) n (drop i cs) ≡ runFrom tb from 0 cs
 
 module _ (tb : List ℕ) (good : goodTable tb ≡ true) (from : List ℕ) (long-from : length from ≡ 1105) (fit : fits tb from ≡ true) (cs : List ℕ) (pairs : length cs % 2 ≡ 0)
-    (st : List ℕ) (g : List (List ℕ)) (n i : ℕ) (l : Left tb from cs st g n i) (more : i < length cs)
-    (r : ℕ) (q : Agent) (ws : List ℕ) (e : chosen r q ws ≡ chooseInto tb st g (getD cs i 0) (getD cs (i + 1) 0)) where
+    (st : List ℕ) (g : List (List ℕ)) (n i : ℕ) (l : Left tb from cs st g n i) (more : i < length cs) where
   abbrev a : ℕ
   a = getD cs i 0
 
@@ -190,15 +167,15 @@ module _ (tb : List ℕ) (good : goodTable tb ≡ true) (from : List ℕ) (long-
   from-here : runFrom tb (withRegs st g) n (a ∷ t ∷ drop (i + 2) cs) ≡ runFrom tb from 0 cs
   from-here = ap (runFrom tb (withRegs st g) n) (sym (two cs i two-left)) ∙ l .ends
 
-  pub turn-ends : (r ≡ 0 → ⊥) → ended r n (withRegs ws g) ≡ runFrom tb from 0 cs
-  turn-ends k = sym (refused-run tb st g a t r q ws e n (drop (i + 2) cs) k) ∙ from-here
+  pub turn-ends : (r : ℕ) → choiceReply tb (withRegs st g) a t ≡ r → (r ≡ 0 → ⊥) → ended r n (withRegs st g) ≡ runFrom tb from 0 cs
+  turn-ends r h k = sym (refused-run tb st g a t r h k n (drop (i + 2) cs)) ∙ from-here
 
-  module _ (z : r ≡ 0) where
-    pub turn-low : a < 16
-    turn-low = chosen-low tb (withRegs st g) good a t (chosen-reply tb st g a t r q ws e ∙ z)
+  module _ (h : choiceReply tb (withRegs st g) a t ≡ 0) (q : Agent) (ws : List ℕ) (e : acted q ws ≡ actInto tb st g a t) where
+    turn-low : a < 16
+    turn-low = chosen-low tb (withRegs st g) good a t h
 
     next-ends : runFrom tb (withRegs ws (set g a (q .regs))) (n + 1) (drop (i + 2) cs) ≡ runFrom tb from 0 cs
-    next-ends = sym (accepted-run tb st g a t r q ws e z (l .long) (l .wide) turn-low n (drop (i + 2) cs)) ∙ from-here
+    next-ends = sym (accepted-run tb st g a t q ws e (l .long) (l .wide) turn-low h n (drop (i + 2) cs)) ∙ from-here
 
     pub turn-count : n + 1 ≤ 512
     turn-count = count-bound tb good from long-from fit cs (withRegs ws (set g a (q .regs))) (drop (i + 2) cs) (n + 1) next-ends
@@ -208,7 +185,7 @@ module _ (tb : List ℕ) (good : goodTable tb ≡ true) (from : List ℕ) (long-
         record {
           read = let h = two-left in omega arith;
           even = let v = l .even in omega arith;
-          long = words-length tb st g a t r q ws e z (l .long) (l .wide) turn-low;
+          long = words-length tb st g a t q ws e (l .long) (l .wide) turn-low;
           wide = length-set g a (q .regs) ∙ l .wide;
           ends = next-ends;
         }

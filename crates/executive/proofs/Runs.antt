@@ -9,13 +9,12 @@ use native.Mathlib.Omega.{arith}
 use lib.ListN.{length}
 use Rattle.tables.specs.Layout.{agents}
 use Rattle.tables.specs.Table.{goodTable}
-use Rattle.executive.specs.State.{pos, startWords}
-use Rattle.executive.specs.Step.{choiceReply, accepted}
+use Rattle.choices.specs.State.{pos, startWords}
+use Rattle.choices.specs.Step.{choiceReply, accepted, Allowed}
 use Rattle.executive.specs.Run.{RunOutcome, ended, runFrom}
 use Rattle.tables.proofs.Good.{few, few-rows}
-use Rattle.executive.proofs.After.{accepted-length, pos-rises}
-use Rattle.executive.specs.Laws.{Allowed}
-use Rattle.executive.proofs.Choice.{allowed}
+use Rattle.choices.proofs.After.{accepted-length, pos-rises}
+use Rattle.choices.proofs.Choice.{allowed}
 use Rattle.executive.proofs.Fitting.{Fits}
 use Rattle.executive.proofs.Start.{start-length}
 use Rattle.executive.proofs.Fits.{start-is, accepted-is, new-position}

@@ -5,8 +5,8 @@ use Prim.Native.Nat.{ℕ, zero, suc, _+_, _-_, _<_, _≤_}
 use native.Mathlib.Nat.{not-suc-le-zero}
 use native.Mathlib.Omega.{arith}
 use lib.ListN.{length, set, take, drop, getD, replicate, length-append, length-take, length-drop, List·getD-append}
-use Rattle.executive.specs.State.{startWords}
-use Rattle.executive.proofs.Lists.{getD-right, getD-zeros, getD-part}
+use Rattle.choices.specs.State.{startWords}
+use Rattle.choices.proofs.Lists.{getD-right, getD-zeros, getD-part}
 
 abbrev one : List ℕ
 one = 1 ∷ replicate 16 0

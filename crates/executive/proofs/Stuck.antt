@@ -12,12 +12,11 @@ use borrow.Author.Tests.{ltb-true}
 use Rattle.tables.specs.Layout.{agents, rows}
 use Rattle.tables.specs.Table.{goodTable}
 use Rattle.tables.proofs.Passed.{and-1, and-2, all-below}
-use Rattle.executive.specs.State.{clock, pos}
-use Rattle.executive.specs.Fit.{unfinished, current, inTime}
-use Rattle.executive.specs.Step.{canGo, stuck, choiceReply}
+use Rattle.choices.specs.State.{clock, pos}
+use Rattle.choices.specs.Fit.{unfinished, current, inTime}
+use Rattle.choices.specs.Step.{canGo, stuck, choiceReply, Allowed}
 use Rattle.tables.proofs.Good.{window}
-use Rattle.executive.specs.Laws.{Allowed}
-use Rattle.executive.proofs.Choice.{in-time, not-stuck, lacking, reply-10, reply-11}
+use Rattle.choices.proofs.Choice.{in-time, not-stuck, lacking, reply-10, reply-11}
 use Rattle.executive.proofs.Fitting.{Fits}
 
 module _ (tb st : List ℕ) where

@@ -9,10 +9,10 @@ use native.Mathlib.Omega.{arith}
 use borrow.Author.Tests.{lt-ltb, le-ltb, eq-eqb, ne-eqb}
 use Rattle.tables.specs.Layout.{agents, row}
 use Rattle.tables.specs.declared.Row.{Row}
-use Rattle.executive.specs.State.{Pool}
-use Rattle.executive.specs.Messages.{visible, beats, look, lookRows, lookAgents, best}
-use Rattle.executive.specs.declared.Best.{Best}
-use Rattle.executive.specs.declared.Best.the-variants.{Nothing, Message}
+use Rattle.choices.specs.State.{Pool}
+use Rattle.choices.specs.Messages.{visible, beats, look, lookRows, lookAgents, best}
+use Rattle.choices.specs.declared.Best.{Best}
+use Rattle.choices.specs.declared.Best.the-variants.{Nothing, Message}
 use Rattle.executive.specs.Laws.{Visible, GoesBefore, NoneVisible, Taken}
 
 -- the order in one number: a greater late, then a lower agent, then a higher row

@@ -9,9 +9,9 @@ use lib.ListN.{length, take, drop}
 use Rattle.tables.specs.Basics.{first, _⇒_}
 use Rattle.tables.specs.Layout.{tableWords}
 use Rattle.tables.specs.Table.{goodTable}
-use Rattle.executive.specs.State.{stateWords, startWords}
-use Rattle.executive.specs.Fit.{fits}
-use Rattle.executive.specs.Step.{choiceReply, accepted}
+use Rattle.choices.specs.State.{stateWords, startWords}
+use Rattle.choices.specs.Fit.{fits}
+use Rattle.choices.specs.Step.{choiceReply, accepted}
 use Rattle.executive.specs.Run.{RunOutcome, ended, runFrom}
 
 abbrev pub tablePart : List ℕ → List ℕ

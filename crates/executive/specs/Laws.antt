@@ -9,12 +9,12 @@ use lib.Count.{onesIn, trailingZeros}
 use Rattle.tables.specs.Layout.{agents, rows, row, tableWords}
 use Rattle.tables.specs.Table.{goodTable}
 use Rattle.tables.specs.declared.Row.{Row}
-use Rattle.executive.specs.declared.Best.{Best}
-use Rattle.executive.specs.declared.Best.the-variants.{Nothing, Message}
-use Rattle.executive.specs.State.{clock, pos, Pool, pool, agentAt, startWords, stateWords}
-use Rattle.executive.specs.Messages.{visible, best}
-use Rattle.executive.specs.Fit.{current, fits}
-use Rattle.executive.specs.Step.{choiceReply, stuck, accepted}
+use Rattle.choices.specs.declared.Best.{Best}
+use Rattle.choices.specs.declared.Best.the-variants.{Nothing, Message}
+use Rattle.choices.specs.State.{clock, pos, Pool, pool, agentAt, startWords, stateWords}
+use Rattle.choices.specs.Messages.{visible, best}
+use Rattle.choices.specs.Fit.{current, fits}
+use Rattle.choices.specs.Step.{choiceReply, Allowed, stuck, accepted}
 use Rattle.executive.specs.Run.{RunOutcome, ended}
 use Rattle.executive.specs.Calls.{startInto, stepInto, runRefusal, runInto}
 
@@ -66,18 +66,6 @@ NextDepends = (tb st st′ : List ℕ) → Sound tb st → Sound tb st′ → (a
     → agentAt (accepted tb st a t) a ≡ agentAt (accepted tb st′ a t′) a
 
 -- ---- acceptance and 14
-
--- the time is "not above the late of any unfinished agent's current row"
-abbrev pub InTime : (tb st : List ℕ) → ℕ → Type 0
-InTime tb st t = (b : ℕ) → b < agents tb → pos st b < rows tb b → t ≤ current tb st b .late
-
--- "It is accepted exactly when .."
-pub record Allowed (tb st : List ℕ) (a t : ℕ) : Type 0 where
-  pub agent : a < agents tb
-  pub unended : pos st a < rows tb a
-  pub clock : clock st ≤ t
-  pub early : current tb st a .early ≤ t
-  pub late : InTime tb st t
 
 abbrev pub AcceptedExactly : Type 0
 AcceptedExactly = (tb st : List ℕ) (a t : ℕ) → choiceReply tb st a t ≡ 0 ↔ Allowed tb st a t

@@ -1,10 +1,4 @@
--- What a reader of this crate must believe, lowest first.
-pub mod State
-pub mod Messages
-pub mod Effect
-pub mod Fit
-pub mod Step
-pub mod Registers
+-- What a reader of this crate must believe, lowest first; the rules of a state and of a choice are the specs of `choices`.
 pub mod Run
 pub mod Calls
 pub mod Laws

@@ -1,7 +1,7 @@
 -- A run over a list of choices: it stops at the first refusal. Assumes nothing.
 use mathlib.Core.List.{List, [], _∷_}
 use Prim.Native.Nat.{ℕ, zero, suc, _+_}
-use Rattle.executive.specs.Step.{choiceReply, accepted}
+use Rattle.choices.specs.Step.{choiceReply, accepted}
 
 -- how a run ends: its reply, the count of accepted steps, and the state's words
 pub record RunOutcome : Type 0 where

@@ -1,5 +1,5 @@
 // Whether a state fits a good table: what reply 9 denies.
-use crate::deadlines::deadline;
+use choices::deadlines::deadline;
 use tables::rows::row_at;
 use tables::words::all_zero;
 ghost use mathlib.Core.Path.{_≡_};
@@ -10,8 +10,8 @@ ghost use lib.ListN.{length};
 ghost use Rattle.tables.specs.Basics.{every, allBelow, zeroFrom};
 ghost use Rattle.tables.specs.Layout.{agents, rows, tableWords};
 ghost use Rattle.tables.specs.Table.{goodTable};
-ghost use Rattle.executive.specs.State.{posPlace, regPlace, markPlace, valuePlace, stateWords};
-ghost use Rattle.executive.specs.Fit.{goodMark, goodPlaces, fits};
+ghost use Rattle.choices.specs.State.{posPlace, regPlace, markPlace, valuePlace, stateWords};
+ghost use Rattle.choices.specs.Fit.{goodMark, goodPlaces, fits};
 
 // Whether row i of agent a, below the agent's position, has a mark and a value that it may have.
 fn mark_is_good(table: &[u32], state: &[u32], a: usize, i: usize) -> bool

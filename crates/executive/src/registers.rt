@@ -2,8 +2,8 @@
 ghost use mathlib.Core.Path.{_≡_};
 ghost use Prim.Native.Nat.{_+_, _≤_};
 ghost use lib.ListN.{length, take, drop};
-ghost use Rattle.executive.specs.State.{stateWords};
-ghost use Rattle.executive.specs.Registers.{withRegs};
+ghost use Rattle.choices.specs.State.{stateWords};
+ghost use Rattle.choices.specs.Registers.{withRegs};
 
 // Four words from a place on.
 fn four_from(words: &[u32], p: usize) -> [u32; 4]

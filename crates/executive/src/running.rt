@@ -3,8 +3,8 @@ use crate::Ran;
 use crate::registers::load_registers;
 use crate::registers::store_registers;
 use crate::starting::put_start;
-use crate::stepping::act;
-use crate::stepping::choice_reply;
+use choices::stepping::act;
+use choices::stepping::choice_reply;
 use tables::replies::ACCEPTED;
 ghost use mathlib.Core.Path.{_≡_};
 ghost use mathlib.Core.Bool.{true};
@@ -12,9 +12,9 @@ ghost use Prim.Native.Nat.{_%_};
 ghost use lib.ListN.{length};
 ghost use Rattle.tables.specs.Layout.{tableWords};
 ghost use Rattle.tables.specs.Table.{goodTable};
-ghost use Rattle.executive.specs.State.{startWords, stateWords};
-ghost use Rattle.executive.specs.Fit.{fits};
-ghost use Rattle.executive.specs.Registers.{withRegs};
+ghost use Rattle.choices.specs.State.{startWords, stateWords};
+ghost use Rattle.choices.specs.Fit.{fits};
+ghost use Rattle.choices.specs.Registers.{withRegs};
 ghost use Rattle.executive.specs.Run.{ended, runFrom};
 
 // From the state's words with the registers regs, which stand in a local until the choices end: the state's own are stored then.

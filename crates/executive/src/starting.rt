@@ -5,7 +5,7 @@ ghost use mathlib.Core.Path.{_≡_};
 ghost use Prim.Native.Nat.{_≤_};
 ghost use lib.ListN.{length};
 ghost use Rattle.tables.specs.Layout.{tableWords};
-ghost use Rattle.executive.specs.State.{startWords, stateWords};
+ghost use Rattle.choices.specs.State.{startWords, stateWords};
 
 // The start state into the words of a state: the table's registers stand where the state's do.
 pub fn put_start(table: &[u32], state: &mut [u32])

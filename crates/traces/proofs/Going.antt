@@ -8,18 +8,18 @@ use lib.ListN.{length, drop}
 use lib.Seq.{sets, length-sets}
 use Rattle.tables.specs.Lines.{lines, field}
 use Rattle.tables.specs.Table.{goodTable}
-use Rattle.executive.specs.declared.Agent.{Agent}
-use Rattle.executive.specs.State.{agentAt, startWords}
-use Rattle.executive.specs.Fit.{fits}
-use Rattle.executive.specs.Step.{choiceReply, accepted}
+use Rattle.choices.specs.declared.Agent.{Agent}
+use Rattle.choices.specs.State.{agentAt, startWords}
+use Rattle.choices.specs.Fit.{fits}
+use Rattle.choices.specs.Step.{choiceReply, accepted}
 use Rattle.executive.specs.Run.{runFrom}
-use Rattle.executive.specs.Registers.{withRegs}
+use Rattle.choices.specs.Registers.{withRegs}
 use Rattle.executive.proofs.Runs.{run-go, count-from-start}
 use Rattle.executive.proofs.RunOn.{count-least}
 use Rattle.executive.proofs.Fits.{start-fits, accepted-fits}
 use Rattle.executive.proofs.Start.{start-length}
-use Rattle.executive.proofs.Choosing.{chosen-low}
-use Rattle.executive.proofs.After.{agent-four, accepted-length}
+use Rattle.choices.proofs.Choosing.{chosen-low}
+use Rattle.choices.proofs.After.{agent-four, accepted-length}
 use Rattle.traces.specs.Input.{badChoice, choicesIn}
 use Rattle.traces.specs.Output.{Traced, traced, after, stepLine, lastLine, traceFrom}
 use Rattle.traces.specs.Calls.{TraceOutcome, traceOutcome, longestOutput, written}

@@ -4,7 +4,6 @@ pub mod Places
 pub mod Choices
 pub mod Steps
 pub mod Parts
-pub mod Chosen
 pub mod Going
 pub mod Whole
 pub mod Table

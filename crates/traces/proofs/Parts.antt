@@ -10,7 +10,7 @@ use Rattle.tables.specs.Frames.{Frame, framesOf}
 use Rattle.reading.specs.Reader.{told, framesReply, tableOf}
 use Rattle.reading.specs.Calls.{ReadOutcome, readOutcome, framesInto, readInto}
 use Rattle.reading.specs.declared.Told.{Told}
-use Rattle.executive.specs.State.{startWords}
+use Rattle.choices.specs.State.{startWords}
 use Rattle.traces.specs.Input.{longestInput, tableText, choiceLines, badChoiceOf, choicesIn}
 use Rattle.traces.specs.Output.{Traced, traced, lastLine, traceFrom, traceChoices, traceTable, traceOf}
 

@@ -6,9 +6,9 @@ use native.Mathlib.Nat.{add-assoc}
 use native.Mathlib.Omega.{arith}
 use lib.ListN.{length, length-append}
 use lib.Seq.{sets}
-use Rattle.executive.specs.declared.Agent.{Agent}
-use Rattle.executive.specs.State.{agentAt}
-use Rattle.executive.specs.Step.{choiceReply, accepted}
+use Rattle.choices.specs.declared.Agent.{Agent}
+use Rattle.choices.specs.State.{agentAt}
+use Rattle.choices.specs.Step.{choiceReply, accepted}
 use Rattle.executive.specs.Run.{ended}
 use Rattle.traces.specs.Output.{Traced, traced, after, stepLine, lastLine, traceFrom}
 use Rattle.traces.specs.Calls.{written}

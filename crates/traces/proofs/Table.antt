@@ -13,7 +13,7 @@ use Rattle.reading.specs.Reader.{framesReply, tableOf}
 use Rattle.reading.specs.Calls.{ReadOutcome, Read}
 use Rattle.reading.specs.declared.Told.{Told}
 use Rattle.reading.proofs.ReadGood.{table-length, read-good}
-use Rattle.executive.specs.State.{startWords}
+use Rattle.choices.specs.State.{startWords}
 use Rattle.traces.specs.Input.{longestInput, tableBytes, tableText, choiceLines, badChoice, badChoiceOf, choicesIn}
 use Rattle.traces.specs.Output.{traced, lastLine, traceFrom, traceOf}
 use Rattle.traces.proofs.Choices.{bad-any}

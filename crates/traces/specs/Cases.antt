@@ -12,11 +12,11 @@ use Rattle.tables.specs.Lines.{lines, same, endLine, hexDigit, allHex, number, 
 use Rattle.tables.specs.Frames.{frameOf, framesOf, fourWords}
 use Rattle.reading.specs.Reader.{inPlace, rowsGood, rowsNext, framesReply, loaded, tableOf}
 use Rattle.reading.specs.Calls.{readInto, framesInto}
-use Rattle.executive.specs.State.{startWords}
-use Rattle.executive.specs.Messages.{best, lookAgents, lookRows, look, visible, beats}
-use Rattle.executive.specs.Effect.{after, receive}
-use Rattle.executive.specs.Fit.{inTime, unfinished}
-use Rattle.executive.specs.Step.{choiceReply, stuck, canGo, accepted, withAgent, withSent}
+use Rattle.choices.specs.State.{startWords}
+use Rattle.choices.specs.Messages.{best, lookAgents, lookRows, look, visible, beats}
+use Rattle.choices.specs.Effect.{after, receive}
+use Rattle.choices.specs.Fit.{inTime, unfinished}
+use Rattle.choices.specs.Step.{choiceReply, stuck, canGo, accepted, withAgent, withSent}
 use Rattle.traces.specs.Input.{tableBytes, tableText, choiceLines, goodChoice, badChoice, badChoiceOf, choicesIn}
 use Rattle.traces.specs.Output.{hexChar, hexDigits, hexWords, stepLine, lastLine, traceFrom, traceChoices, traceTable, traceOf}
 

@@ -8,9 +8,9 @@ use Rattle.tables.specs.Lines.{newline}
 use Rattle.tables.specs.Layout.{tableWords}
 use Rattle.reading.specs.Calls.{readInto}
 use Rattle.reading.specs.declared.Told.{Told}
-use Rattle.executive.specs.State.{startWords, agentAt}
-use Rattle.executive.specs.Step.{choiceReply, accepted}
-use Rattle.executive.specs.declared.Agent.{Agent}
+use Rattle.choices.specs.State.{startWords, agentAt}
+use Rattle.choices.specs.Step.{choiceReply, accepted}
+use Rattle.choices.specs.declared.Agent.{Agent}
 use Rattle.traces.specs.Input.{longestInput, tableText, choiceLines, badChoiceOf, choicesIn}
 
 -- the upper-case hexadecimal digit of a number below 16

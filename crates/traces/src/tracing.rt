@@ -2,9 +2,10 @@
 use crate::TraceReply;
 use crate::writing::put_last_line;
 use crate::writing::put_step_line;
+use choices::stepping::act;
+use choices::stepping::choice_reply;
 use executive::registers::load_registers;
 use executive::starting::put_start;
-use executive::stepping::choose;
 use tables::frames::field;
 use tables::replies::ACCEPTED;
 ghost use mathlib.Core.Path.{_≡_};
@@ -14,7 +15,7 @@ ghost use lib.ListN.{length};
 ghost use Rattle.tables.specs.Layout.{tableWords};
 ghost use Rattle.tables.specs.Lines.{lines};
 ghost use Rattle.tables.specs.Table.{goodTable};
-ghost use Rattle.executive.specs.State.{stateWords, startWords};
+ghost use Rattle.choices.specs.State.{stateWords, startWords};
 ghost use Rattle.traces.specs.Input.{badChoice, choicesIn};
 ghost use Rattle.traces.specs.Output.{traced, lastLine, traceFrom};
 ghost use Rattle.traces.specs.Calls.{traceOutcome, longestOutput, written};
@@ -53,13 +54,15 @@ pub fn trace_steps(choices: &[u8], table: &[u32], out: &mut [u8]) -> TraceReply
     while at < choices.len() {
         let a = field(choices, at + 2, 2);
         let t = field(choices, at + 4, 8);
-        let chosen = choose(table, &mut state, regs, a, t);
-        if chosen.reply != ACCEPTED {
-            return finish(out, end, chosen.reply, n);
+        let reply = choice_reply(table, &state, a, t);
+        if reply != ACCEPTED {
+            return finish(out, end, reply, n);
         }
-        let agent = chosen.agent;
-        let own = agent.regs;
-        regs[a as usize] = own;
+        let b = a as usize;
+        let own = regs[b];
+        let agent = act(table, &mut state, b, t, own);
+        let new = agent.regs;
+        regs[b] = new;
         put_step_line(out, end, a, t, agent);
         n += 1;
         at += 13;

@@ -1,5 +1,5 @@
 // Text of upper-case hexadecimal digits, put into a lent buffer from a place on.
-use executive::Agent;
+use choices::Agent;
 ghost use mathlib.Core.Path.{_≡_};
 ghost use Prim.Native.Nat.{_+_, _≤_, _<_};
 ghost use lib.ListN.{length};

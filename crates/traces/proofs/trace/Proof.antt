@@ -6,7 +6,7 @@ use native.Mathlib.Nat.{le-of-eq}
 use lib.ListN.{length, take, drop, length-drop}
 use lib.Seq.{take-all, length-take-le}
 use Rattle.tables.specs.Lines.{lines}
-use Rattle.executive.specs.State.{startWords}
+use Rattle.choices.specs.State.{startWords}
 use Rattle.traces.specs.Input.{choicesIn, badChoice}
 use Rattle.traces.specs.Output.{traceFrom}
 use Rattle.traces.proofs.Parts.{trace-long}

@@ -9,7 +9,7 @@ use Rattle.tables.proofs.Good.{few, few-rows}
 use Rattle.tables.proofs.Tests.{refused, granted}
 use Rattle.tables.proofs.Passed.{not-all-below}
 use Rattle.tables.proofs.Loops.{below-none, below-next}
-use Rattle.executive.specs.Fit.{goodPlaces}
+use Rattle.choices.specs.Fit.{goodPlaces}
 use Rattle.executive.proofs.checking.agents_are_good.Statement.{statement}
 use Rattle.executive.proofs.checking.agents_are_good.Tie as tie
 

@@ -7,7 +7,7 @@ use Rattle.tables.specs.Basics.{allBelow}
 use Rattle.tables.proofs.Tests.{refused, granted}
 use Rattle.tables.proofs.Passed.{not-all-below}
 use Rattle.tables.proofs.Loops.{below-none, below-next}
-use Rattle.executive.specs.Fit.{goodMark}
+use Rattle.choices.specs.Fit.{goodMark}
 use Rattle.executive.proofs.checking.marks_are_good.Statement.{statement}
 use Rattle.executive.proofs.checking.marks_are_good.Tie as tie
 

@@ -4,7 +4,7 @@ use Prim.Native.Nat.{_+_}
 use borrow.Author.Tests.{le-leb, lt-leb}
 use Rattle.tables.proofs.Tests.{refused, granted}
 use Rattle.tables.proofs.Passed.{every-stop, every-go, every-last}
-use Rattle.executive.specs.Fit.{goodPlaces}
+use Rattle.choices.specs.Fit.{goodPlaces}
 use borrow.Author.Needs.{needs}
 use Rattle.executive.proofs.checking.places_are_good.Statement.{statement}
 use Rattle.executive.proofs.checking.places_are_good.Tie as tie

@@ -6,8 +6,8 @@ use borrow.Author.Tests.{le-leb, lt-leb}
 use Rattle.tables.proofs.Good.{few}
 use Rattle.tables.proofs.Tests.{refused, granted}
 use Rattle.tables.proofs.Passed.{every-stop, every-go}
-use Rattle.executive.specs.State.{clock}
-use Rattle.executive.specs.Fit.{fits}
+use Rattle.choices.specs.State.{clock}
+use Rattle.choices.specs.Fit.{fits}
 use borrow.Author.Needs.{needs}
 use Rattle.executive.proofs.checking.state_fits.Statement.{statement}
 use Rattle.executive.proofs.checking.state_fits.Tie as tie

@@ -1,6 +1,6 @@
 -- `four_from` meets its contract: four words read one by one. Assumes nothing.
 use native.Mathlib.Omega.{arith}
-use Rattle.executive.proofs.Around.{four-words}
+use Rattle.choices.proofs.Around.{four-words}
 use borrow.Author.Needs.{needs}
 use Rattle.executive.proofs.registers.four_from.Statement.{statement}
 use Rattle.executive.proofs.registers.four_from.Tie as tie

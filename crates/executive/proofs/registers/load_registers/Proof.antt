@@ -4,8 +4,8 @@ use mathlib.Core.List.{[], _++_, append-nil}
 use Prim.Native.Nat.{_-_, _≤_, zero-le}
 use lib.ListN.{drop, replicate}
 use native.Mathlib.Omega.{arith}
-use Rattle.executive.specs.Registers.{listed, withRegs}
-use Rattle.executive.proofs.Around.{registersOf, listed-set, loaded-own}
+use Rattle.choices.specs.Registers.{listed, withRegs}
+use Rattle.choices.proofs.Around.{registersOf, listed-set, loaded-own}
 use Rattle.executive.proofs.registers.load_registers.Statement.{statement}
 use Rattle.executive.proofs.registers.load_registers.Tie as tie
 

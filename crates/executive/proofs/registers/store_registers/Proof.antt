@@ -4,8 +4,8 @@ use Prim.Native.Nat.{_-_, _≤_, zero-le}
 use lib.ListN.{length, length-set}
 use lib.Seq.{paste, paste-zero}
 use native.Mathlib.Omega.{arith}
-use Rattle.executive.specs.Registers.{listed, register}
-use Rattle.executive.proofs.Around.{stored-next, stored-all}
+use Rattle.choices.specs.Registers.{listed, register}
+use Rattle.choices.proofs.Around.{stored-next, stored-all}
 use Rattle.executive.proofs.registers.store_registers.Statement.{statement}
 use Rattle.executive.proofs.registers.store_registers.Tie as tie
 

@@ -4,9 +4,9 @@ use Prim.Native.Nat.{_-_}
 use native.Mathlib.Omega.{arith}
 use lib.ListN.{length}
 use Rattle.tables.proofs.Good.{few}
-use Rattle.executive.specs.Registers.{withRegs}
+use Rattle.choices.specs.Registers.{withRegs}
 use Rattle.executive.specs.Run.{ended}
-use Rattle.executive.proofs.Choosing.{whole-length, chosen-low, refuses}
+use Rattle.choices.proofs.Choosing.{whole-length, chosen-low, reply-whole}
 use Rattle.executive.proofs.RunOn.{Left, turn-ends, turn-count, turn-goes, none-left}
 use Rattle.executive.proofs.running.work_out.Statement.{statement}
 use Rattle.executive.proofs.running.work_out.Tie as tie
@@ -59,8 +59,8 @@ returns c =
     let from = withRegs (g .args .state .now) (g .args .regs) in
     let d = c .before .before .before .before .before .choice-reply in
     ap (ended (d .result) (l .count)) (c .before .before .store-registers .ensures)
-    ∙ turn-ends (g .args .table .now) (g .pre .2) from (whole-length (g .args .state .now) (g .args .regs) (g .pre .1)) (g .pre .4) (g .args .choices .now) (g .pre .3) (l .state) (l .all) (l .count) (l .i) (l .inv) (c .before .before .before .before .before .before .before .before .before .loop-test .taken) _ _ _
-    (refuses (g .args .table .now) (l .state) (l .all) (l .inv .long) (few (g .args .table .now) (g .pre .2)) _ _ _ (sym (d .ensures)) (c .before .before .before .before .if1 .taken)) (c .before .before .before .before .if1 .taken)
+    ∙ turn-ends (g .args .table .now) (g .pre .2) from (whole-length (g .args .state .now) (g .args .regs) (g .pre .1)) (g .pre .4) (g .args .choices .now) (g .pre .3) (l .state) (l .all) (l .count) (l .i) (l .inv) (c .before .before .before .before .before .before .before .before .before .loop-test .taken) (d .result)
+    (reply-whole (g .args .table .now) (l .state) (l .all) (l .inv .long) (few (g .args .table .now) (g .pre .2)) _ _ ∙ sym (d .ensures)) (c .before .before .before .before .if1 .taken)
 
 cast-b : tie.Need-cast-b Inv-loop μ-loop
 cast-b c =
@@ -107,7 +107,7 @@ add-count c =
     let g = c .before .before .before .before .before .before .before .before .before .before .before .before .before .before .before .before in
     let l = c .before .before .before .before .before .before .before .before .before .before .before .before .loop in
     let from = withRegs (g .args .state .now) (g .args .regs) in
-    let k = turn-count (g .args .table .now) (g .pre .2) from (whole-length (g .args .state .now) (g .args .regs) (g .pre .1)) (g .pre .4) (g .args .choices .now) (g .pre .3) (l .state) (l .all) (l .count) (l .i) (l .inv) (c .before .before .before .before .before .before .before .before .before .before .before .loop-test .taken) _ _ _ (c .before .before .before .act .ensures (l .all) refl) refl in
+    let k = turn-count (g .args .table .now) (g .pre .2) from (whole-length (g .args .state .now) (g .args .regs) (g .pre .1)) (g .pre .4) (g .args .choices .now) (g .pre .3) (l .state) (l .all) (l .count) (l .i) (l .inv) (c .before .before .before .before .before .before .before .before .before .before .before .loop-test .taken) (reply-whole (g .args .table .now) (l .state) (l .all) (l .inv .long) (few (g .args .table .now) (g .pre .2)) _ _ ∙ sym (c .before .before .before .before .before .before .before .choice-reply .ensures) ∙ c .before .before .before .before .before .before .if1 .left) _ _ (c .before .before .before .act .ensures (l .all) refl) in
     omega arith
 
 add-i : tie.Need-add-i Inv-loop μ-loop
@@ -121,7 +121,7 @@ loop-again c =
     let g = c .before .before .before .before .before .before .before .before .before .before .before .before .before .before .before .before in
     let l = c .before .before .before .before .before .before .before .before .before .before .before .before .loop in
     let from = withRegs (g .args .state .now) (g .args .regs) in
-    turn-goes (g .args .table .now) (g .pre .2) from (whole-length (g .args .state .now) (g .args .regs) (g .pre .1)) (g .pre .4) (g .args .choices .now) (g .pre .3) (l .state) (l .all) (l .count) (l .i) (l .inv) (c .before .before .before .before .before .before .before .before .before .before .before .loop-test .taken) _ _ _ (c .before .before .before .act .ensures (l .all) refl) refl
+    turn-goes (g .args .table .now) (g .pre .2) from (whole-length (g .args .state .now) (g .args .regs) (g .pre .1)) (g .pre .4) (g .args .choices .now) (g .pre .3) (l .state) (l .all) (l .count) (l .i) (l .inv) (c .before .before .before .before .before .before .before .before .before .before .before .loop-test .taken) (reply-whole (g .args .table .now) (l .state) (l .all) (l .inv .long) (few (g .args .table .now) (g .pre .2)) _ _ ∙ sym (c .before .before .before .before .before .before .before .choice-reply .ensures) ∙ c .before .before .before .before .before .before .if1 .left) _ _ (c .before .before .before .act .ensures (l .all) refl)
 
 store-registers-requires-2 : tie.Need-store-registers-requires-2 Inv-loop μ-loop
 store-registers-requires-2 c κs = let l = c .before .before .loop .inv .long in omega arith

@@ -1,18 +1,19 @@
 -- `trace_steps` meets its contract. The invariant is `Going`: what is left of the output, put where the step lines end, makes the whole. Assumes nothing.
 use native.Mathlib.Omega.{arith}
 use borrow.Author.Needs.{needs}
-use mathlib.Core.Path.{_≡_, refl, _∙_}
+use mathlib.Core.Path.{_≡_, refl, sym, _∙_}
 use Rattle.tables.specs.Heads.{digitsAt}
 use mathlib.Core.Bool.{true}
 use Prim.Native.Nat.{_+_, _-_, _≤_, _<_}
 use lib.ListN.{length, length-set}
 use Rattle.tables.proofs.Heads.{field-asks}
-use Rattle.executive.specs.Step.{choiceReply, accepted}
-use Rattle.executive.specs.Registers.{withRegs}
-use Rattle.executive.proofs.Choosing.{whole-length}
+use Rattle.choices.specs.Step.{choiceReply, accepted}
+use Rattle.choices.specs.Registers.{withRegs}
+use Rattle.tables.proofs.Good.{few}
+use Rattle.choices.proofs.Choosing.{whole-length, reply-whole}
 use Rattle.traces.specs.Places.{choiceAt}
 use Rattle.traces.proofs.Choices.{choice-digits, choice-room}
-use Rattle.traces.proofs.Chosen.{chosen-reply, chosen-agent, chosen-state}
+use Rattle.executive.proofs.RunOn.{agent-is, whole-after}
 use Rattle.traces.proofs.Going.{Going, is-choice, room, refused, one-more, on, none-left, all-written, low, begin}
 use Rattle.traces.proofs.tracing.trace_steps.Statement.{statement}
 use Rattle.traces.proofs.tracing.trace_steps.Tie as tie
@@ -34,15 +35,18 @@ enough : (c : tie.In-loop Inv-loop μ-loop) → c .before .loop .at + 13 ≤ len
 enough c = choice-room _ _ (chosen-line c) (c .before .loop .inv .within)
 
 -- after the choice: its reply, and where it is accepted, that there is room for one line more and that its agent exists
-said : (c : tie.After-choose Inv-loop μ-loop)
+said : (c : tie.After-choice-reply Inv-loop μ-loop)
     → choiceReply (c .before .before .before .before .before .before .before .before .before .before .before .before .before .before .before .args .table .now) (withRegs (c .before .before .before .before .before .loop .state) (c .before .before .before .before .before .loop .regs)) (c .before .before .before .field .result) (c .before .before .field2 .result)
-    ≡ c .choose .result .reply
-said c = chosen-reply _ _ _ _ _ _ _ _ (c .choose .ensures)
+    ≡ c .choice-reply .result
+said c =
+    let g = c .before .before .before .before .before .before .before .before .before .before .before .before .before .before .before in
+    let l = c .before .before .before .before .before .loop in
+    reply-whole (g .args .table .now) (l .state) (l .regs) (l .inv .state-long) (few (g .args .table .now) (g .pre .1)) _ _ ∙ sym (c .choice-reply .ensures)
 
-more : (c : tie.After-choose Inv-loop μ-loop) → c .choose .result .reply ≡ 0 → c .before .before .before .before .before .loop .n + 1 ≤ 512
+more : (c : tie.After-choice-reply Inv-loop μ-loop) → c .choice-reply .result ≡ 0 → c .before .before .before .before .before .loop .n + 1 ≤ 512
 more c z = one-more _ _ _ _ _ _ _ _ _ (c .before .before .before .before .before .loop .inv) (c .before .before .before .before .loop-test .taken) _ _ (c .before .before .before .field .ensures) (c .before .before .field2 .ensures) (said c ∙ z)
 
-low-agent : (c : tie.After-choose Inv-loop μ-loop) → c .choose .result .reply ≡ 0 → c .before .before .before .field .result < 16
+low-agent : (c : tie.After-choice-reply Inv-loop μ-loop) → c .choice-reply .result ≡ 0 → c .before .before .before .field .result < 16
 low-agent c z =
     low _ _ _ _ _ _ _ _ _ (c .before .before .before .before .before .loop .inv) (c .before .before .before .before .loop-test .taken) _ _ (c .before .before .before .field .ensures) (c .before .before .field2 .ensures) (said c ∙ z) (c .before .before .before .before .before .before .before .before .before .before .before .before .before .before .before .pre .1)
 
@@ -78,72 +82,87 @@ add-field-2 c = let r = enough (c .before) in omega arith
 field-requires-2 : tie.Need-field-requires-2 Inv-loop μ-loop
 field-requires-2 c κs = field-asks 12 _ _ (digits (c .before)) _ 4 8 refl (c .before .before .loop .inv .within) (omega arith) (omega arith)
 
-slice-aggregate-choose : tie.Need-slice-aggregate-choose Inv-loop μ-loop
-slice-aggregate-choose c = search needs
+slice-aggregate-choice-reply : tie.Need-slice-aggregate-choice-reply Inv-loop μ-loop
+slice-aggregate-choice-reply c = search needs
 
-choose-requires : tie.Need-choose-requires Inv-loop μ-loop
-choose-requires c κs = (c .before .before .before .before .before .before .before .before .before .before .before .before .before .before .pre .0, c .before .before .before .before .loop .inv .state-long, c .before .before .before .before .before .before .before .before .before .before .before .before .before .before .pre .1)
+choice-reply-requires : tie.Need-choice-reply-requires Inv-loop μ-loop
+choice-reply-requires c κs = (c .before .before .before .before .before .before .before .before .before .before .before .before .before .before .pre .0, c .before .before .before .before .loop .inv .state-long, c .before .before .before .before .before .before .before .before .before .before .before .before .before .before .pre .1)
 
 finish-requires : tie.Need-finish-requires Inv-loop μ-loop
-finish-requires c κs = room _ _ _ _ _ _ _ _ _ (c .before .before .before .before .before .before .before .before .before .loop .inv) (c .before .before .before .before .before .before .before .before .before .before .before .before .before .before .before .before .before .before .before .pre .3)
+finish-requires c κs = room _ _ _ _ _ _ _ _ _ (c .before .before .before .before .before .before .before .loop .inv) (c .before .before .before .before .before .before .before .before .before .before .before .before .before .before .before .before .before .pre .3)
 
 same-length : tie.Need-same-length Inv-loop μ-loop
-same-length c = c .before .before .finish .kept .0 ∙ c .before .before .before .before .before .before .before .before .before .before .before .before .loop .inv .out-long
+same-length c = c .before .before .finish .kept .0 ∙ c .before .before .before .before .before .before .before .before .before .before .loop .inv .out-long
 
 returns : tie.Need-returns Inv-loop μ-loop
 returns c =
-    let d = c .before .before .before .before .before .before .before in
-    let g = c .before .before .before .before .before .before .before .before .before .before .before .before .loop .inv in
-    all-written _ _ _ _ _ _ _ _ _ g _ _ _ _ (c .before .before .before .before .before .before .before .before .before .before .before .before .before .before .before .before .before .before .before .before .before .before .pre .3) (c .before .before .finish .ensures)
-    (refused _ _ _ _ _ _ _ _ _ g (c .before .before .before .before .before .before .before .before .before .before .before .loop-test .taken) _ _ (c .before .before .before .before .before .before .before .before .before .before .field .ensures) (c .before .before .before .before .before .before .before .before .before .field2 .ensures) _ (c .before .before .before .before .if1 .taken) (said d))
+    let d = c .before .before .before .before .before in
+    let g = c .before .before .before .before .before .before .before .before .before .before .loop .inv in
+    all-written _ _ _ _ _ _ _ _ _ g _ _ _ _ (c .before .before .before .before .before .before .before .before .before .before .before .before .before .before .before .before .before .before .before .before .pre .3) (c .before .before .finish .ensures)
+    (refused _ _ _ _ _ _ _ _ _ g (c .before .before .before .before .before .before .before .before .before .loop-test .taken) _ _ (c .before .before .before .before .before .before .before .before .field .ensures) (c .before .before .before .before .before .before .before .field2 .ensures) _ (c .before .before .before .before .if1 .taken) (said d))
 
-cast-regs : tie.Need-cast-regs Inv-loop μ-loop
-cast-regs c = search needs
+cast-b : tie.Need-cast-b Inv-loop μ-loop
+cast-b c = let m = low-agent (c .before) (c .if1 .left) in omega arith
+
+mul-own : tie.Need-mul-own Inv-loop μ-loop
+mul-own c = let m = low-agent (c .before) (c .if1 .left) in omega arith
+
+array-copy-out-own : tie.Need-array-copy-out-own Inv-loop μ-loop
+array-copy-out-own c = low-agent (c .before) (c .if1 .left)
+
+slice-aggregate-act : tie.Need-slice-aggregate-act Inv-loop μ-loop
+slice-aggregate-act c = search needs
+
+act-requires : tie.Need-act-requires Inv-loop μ-loop
+act-requires c κs =
+    let g = c .before .before .before .before .before .before .before .before .before .before .before .before .before .before .before .before .before .before in
+    (g .pre .0, c .before .before .before .before .before .before .before .before .loop .inv .state-long, g .pre .1, sym (c .before .before .before .choice-reply .ensures) ∙ c .before .before .if1 .left)
 
 mul-regs : tie.Need-mul-regs Inv-loop μ-loop
-mul-regs c = let m = low-agent (c .before .before .before .before .before) (c .before .before .if1 .left) in omega arith
+mul-regs c = let m = low-agent (c .before .before .before .before .before .before) (c .before .before .before .before .before .if1 .left) in omega arith
 
 array-set-from-regs : tie.Need-array-set-from-regs Inv-loop μ-loop
-array-set-from-regs c = low-agent (c .before .before .before .before .before) (c .before .before .if1 .left)
+array-set-from-regs c = low-agent (c .before .before .before .before .before .before) (c .before .before .before .before .before .if1 .left)
 
 put-step-line-requires : tie.Need-put-step-line-requires Inv-loop μ-loop
 put-step-line-requires c κs =
-    let m = more (c .before .before .before .before .before .before) (c .before .before .before .if1 .left) in
-    let g = c .before .before .before .before .before .before .before .before .before .before .before .loop .inv in
+    let m = more (c .before .before .before .before .before .before .before) (c .before .before .before .before .before .before .if1 .left) in
+    let g = c .before .before .before .before .before .before .before .before .before .before .before .before .loop .inv in
     let k = g .ends in
     let o = g .out-long in
-    let w = c .before .before .before .before .before .before .before .before .before .before .before .before .before .before .before .before .before .before .before .before .before .pre .3 in
+    let w = c .before .before .before .before .before .before .before .before .before .before .before .before .before .before .before .before .before .before .before .before .before .before .pre .3 in
     omega arith
 
 add-n : tie.Need-add-n Inv-loop μ-loop
-add-n c = let m = more (c .before .before .before .before .before .before .before .before .before) (c .before .before .before .before .before .before .if1 .left) in omega arith
+add-n c = let m = more (c .before .before .before .before .before .before .before .before .before .before) (c .before .before .before .before .before .before .before .before .before .if1 .left) in omega arith
 
 add-at : tie.Need-add-at Inv-loop μ-loop
 add-at c =
-    let r = enough (c .before .before .before .before .before .before .before .before .before .before .before .before .before) in
-    let z = c .before .before .before .before .before .before .before .before .before .before .before .before .before .before .before .before .before .before .before .before .before .before .before .before .good .0 .0 in
+    let r = enough (c .before .before .before .before .before .before .before .before .before .before .before .before .before .before) in
+    let z = c .before .before .before .before .before .before .before .before .before .before .before .before .before .before .before .before .before .before .before .before .before .before .before .before .before .good .0 .0 in
     omega arith
 
 add-end : tie.Need-add-end Inv-loop μ-loop
 add-end c =
-    let m = more (c .before .before .before .before .before .before .before .before .before) (c .before .before .before .before .before .before .if1 .left) in
-    let k = c .before .before .before .before .before .before .before .before .before .before .before .before .before .before .loop .inv .ends in
+    let m = more (c .before .before .before .before .before .before .before .before .before .before) (c .before .before .before .before .before .before .before .before .before .if1 .left) in
+    let k = c .before .before .before .before .before .before .before .before .before .before .before .before .before .before .before .loop .inv .ends in
     omega arith
 
 loop-less : tie.Need-loop-less Inv-loop μ-loop
-loop-less c = let r = enough (c .before .before .before .before .before .before .before .before .before .before .before .before .before) in omega arith
+loop-less c = let r = enough (c .before .before .before .before .before .before .before .before .before .before .before .before .before .before) in omega arith
 
 loop-again : tie.Need-loop-again Inv-loop μ-loop
 loop-again c =
-    let l = c .before .before .before .before .before .before .before .before .before .before .before .before .before .before .loop in
+    let l = c .before .before .before .before .before .before .before .before .before .before .before .before .before .before .before .loop in
     let g = l .inv in
-    let d = c .before .before .before .before .before .before .before .before .before in
-    let z = c .before .before .before .before .before .before .if1 .left in
-    let good = c .before .before .before .before .before .before .before .before .before .before .before .before .before .before .before .before .before .before .before .before .before .before .before .before .pre .1 in
-    on _ _ _ _ _ _ _ _ _ g (c .before .before .before .before .before .before .before .before .before .before .before .before .before .loop-test .taken) _ _ (c .before .before .before .before .before .before .before .before .before .before .before .before .field .ensures) (c .before .before .before .before .before .before .before .before .before .before .before .field2 .ensures) (said d ∙ z) _ _ _ _ good
-    (whole-length (l .state) (l .regs) (g .state-long)) (chosen-agent _ _ _ _ _ _ _ _ (d .choose .ensures) z) (c .before .before .put-step-line .ensures)
-    (d .choose .kept .1 .0 ∙ g .state-long) (length-set (l .regs) _ _ ∙ g .regs-wide)
-    (chosen-state _ _ _ _ _ _ _ _ (d .choose .ensures) z (g .state-long) (g .regs-wide) (low-agent d z))
+    let d = c .before .before .before .before .before .before .before .before .before .before in
+    let z = c .before .before .before .before .before .before .before .before .before .if1 .left in
+    let done = c .before .before .before .before .before .before .act in
+    let good = c .before .before .before .before .before .before .before .before .before .before .before .before .before .before .before .before .before .before .before .before .before .before .before .before .before .pre .1 in
+    on _ _ _ _ _ _ _ _ _ g (c .before .before .before .before .before .before .before .before .before .before .before .before .before .before .loop-test .taken) _ _ (c .before .before .before .before .before .before .before .before .before .before .before .before .before .field .ensures) (c .before .before .before .before .before .before .before .before .before .before .before .before .field2 .ensures) (said d ∙ z) _ _ _ _ good
+    (whole-length (l .state) (l .regs) (g .state-long)) (agent-is _ _ _ _ _ _ _ (done .ensures (l .regs) refl)) (c .before .before .put-step-line .ensures)
+    (done .kept .1 .0 ∙ g .state-long) (length-set (l .regs) _ _ ∙ g .regs-wide)
+    (whole-after _ _ _ _ _ _ _ (done .ensures (l .regs) refl) (g .state-long) (g .regs-wide) (low-agent d z))
 
 finish-requires-2 : tie.Need-finish-requires-2 Inv-loop μ-loop
 finish-requires-2 c κs = room _ _ _ _ _ _ _ _ _ (c .before .before .loop .inv) (c .before .before .before .before .before .before .before .before .before .before .before .before .pre .3)
@@ -172,12 +191,16 @@ trace-steps-spec =
     field-requires
     add-field-2
     field-requires-2
-    slice-aggregate-choose
-    choose-requires
+    slice-aggregate-choice-reply
+    choice-reply-requires
     finish-requires
     same-length
     returns
-    cast-regs
+    cast-b
+    mul-own
+    array-copy-out-own
+    slice-aggregate-act
+    act-requires
     mul-regs
     array-set-from-regs
     put-step-line-requires

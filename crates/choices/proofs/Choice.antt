@@ -1,0 +1,92 @@
+-- A choice is accepted exactly when 01 says so: its reply is 0 where these facts hold, and nowhere else. Assumes nothing.
+use mathlib.Core.Path.{_≡_, refl, sym, _∙_}
+use mathlib.Core.Logic.{_≢_}
+use mathlib.Core.Bool.{Bool, true, false, not, _&&_, _||_, false≢true}
+use mathlib.Core.List.{List, [], _∷_}
+use Prim.Native.Nat.{ℕ, max, _<_, _≤_}
+use native.Mathlib.Omega.{arith}
+use lib.Dec.{ltb, leb, eqb}
+use borrow.Author.Tests.{ltb-true, ltb-false, leb-true, leb-false, lt-ltb, le-ltb, le-leb, lt-leb, eqb-false, eq-eqb, not-false, not-true}
+use Rattle.tables.specs.Basics.{first, _⇒_, Rule}
+use Rattle.tables.specs.Layout.{agents, rows}
+use Rattle.tables.proofs.Tests.{and-both}
+use Rattle.tables.proofs.Passed.{and-1, and-2, below, all-below, not-all-below, passed}
+use Rattle.choices.specs.State.{clock, pos}
+use Rattle.choices.specs.Fit.{unfinished, current, inTime}
+use Rattle.choices.specs.Step.{choiceReply, stuck, canGo, InTime, Allowed}
+
+-- no rule of the list whose test holds has the number n
+abbrev pub lacks : ℕ → List Rule → Bool
+lacks n [] = not (eqb 0 n)
+lacks n ((b ⇒ r) ∷ rs) = not (eqb r n && b) && lacks n rs
+
+pub lacking : (n : ℕ) (rs : List Rule) → lacks n rs ≡ true → first rs ≢ n
+unfolding first
+lacking n [] h e = eqb-false 0 n (not-true (eqb 0 n) h) e
+lacking n ((true ⇒ r) ∷ rs) h e =
+    false≢true (sym (not-true (eqb r n && true) (and-1 (not (eqb r n && true)) (lacks n rs) h)) ∙ and-both (eqb r n) true (eq-eqb r n e) refl)
+lacking n ((false ⇒ r) ∷ rs) h e = lacking n rs (and-2 (not (eqb r n && false)) (lacks n rs) h) e
+
+module _ (tb st : List ℕ) where
+  pub in-time : (t : ℕ) → inTime tb st t ≡ true → InTime tb st t
+  unfolding inTime unfinished
+  in-time t h b hb live =
+      let w : (not (ltb (pos st b) (rows tb b)) || leb t (current tb st b .late)) ≡ true = below (agents tb) _ h b hb in
+      leb-true t (current tb st b .late) (rw (lt-ltb (pos st b) (rows tb b) live) at w)
+
+  pub time-in : (t : ℕ) → InTime tb st t → inTime tb st t ≡ true
+  unfolding inTime unfinished
+  time-in t h = all-below (agents tb) _ (λ b hb. go b hb (ltb (pos st b) (rows tb b)) refl)
+    where
+      go : (b : ℕ) → b < agents tb → (v : Bool) → ltb (pos st b) (rows tb b) ≡ v
+          → (not (ltb (pos st b) (rows tb b)) || leb t (current tb st b .late)) ≡ true
+      go b hb true e = rw e (le-leb t (current tb st b .late) (h b hb (ltb-true (pos st b) (rows tb b) e)))
+      go b hb false e = rw e
+
+  module _ (a t : ℕ) where
+    pub allowed : choiceReply tb st a t ≡ 0 → Allowed tb st a t
+    unfolding choiceReply
+    allowed h =
+        let clear = passed _ tt h in
+        record {
+          agent = leb-false _ _ (clear 0);
+          unended = leb-false _ _ (clear 1);
+          clock = ltb-false _ _ (clear 2);
+          early = ltb-false _ _ (clear 3);
+          late = in-time t (not-false _ (clear 5));
+        }
+
+    -- an agent that may be chosen at some time can go
+    pub can-go : Allowed tb st a t → canGo tb st a ≡ true
+    unfolding canGo unfinished
+    can-go c =
+        rw (lt-ltb (pos st a) (rows tb a) (c .unended))
+        (time-in (max (clock st) (current tb st a .early)) (λ b hb live.
+        let l = c .late b hb live in
+        let n = c .clock in
+        let e = c .early in omega arith))
+
+    pub not-stuck : Allowed tb st a t → stuck tb st ≡ false
+    unfolding stuck
+    not-stuck c = not-all-below (agents tb) (λ b. not (canGo tb st b)) a (c .agent) (rw (can-go c))
+
+    pub allowed-reply : Allowed tb st a t → choiceReply tb st a t ≡ 0
+    unfolding choiceReply first
+    allowed-reply c =
+        rw (
+          lt-leb (agents tb) a (c .agent),
+          lt-leb (rows tb a) (pos st a) (c .unended),
+          le-ltb t (clock st) (c .clock),
+          le-ltb t (current tb st a .early) (c .early),
+          not-stuck c,
+          time-in t (c .late),
+        )
+
+    -- the first two refusals, which make no use of the agent's row
+    pub reply-10 : agents tb ≤ a → choiceReply tb st a t ≡ 10
+    unfolding choiceReply first
+    reply-10 h = rw (le-leb (agents tb) a h)
+
+    pub reply-11 : a < agents tb → rows tb a ≤ pos st a → choiceReply tb st a t ≡ 11
+    unfolding choiceReply first
+    reply-11 h e = rw (lt-leb (agents tb) a h, le-leb (rows tb a) (pos st a) e)

@@ -1,0 +1,9 @@
+-- Laws of the definitions, then what the functions' proofs share.
+pub mod Lists
+pub mod After
+pub mod Choice
+pub mod Effects
+pub mod Looking
+pub mod Deadline
+pub mod Around
+pub mod Choosing

@@ -1,0 +1,105 @@
+// A choice of an agent and a time, of a good table.
+use crate::Agent;
+use crate::deadlines::deadline;
+use crate::deadlines::is_stuck;
+use crate::messages::find_best;
+use tables::Family;
+use tables::Row;
+use tables::replies::ACCEPTED;
+use tables::replies::AFTER_LATE;
+use tables::replies::AGENT_ENDED;
+use tables::replies::BEFORE_CLOCK;
+use tables::replies::BEFORE_EARLY;
+use tables::replies::NO_SUCH_AGENT;
+use tables::replies::STUCK;
+use tables::rows::family_of;
+use tables::rows::row_at;
+ghost use mathlib.Core.Path.{_≡_};
+ghost use mathlib.Core.Bool.{true};
+ghost use mathlib.Core.List.{List, []};
+ghost use Prim.Native.Nat.{ℕ, _≤_, _<_};
+ghost use lib.ListN.{length, getD, set};
+ghost use Rattle.tables.specs.Layout.{agents, tableWords};
+ghost use Rattle.tables.specs.Rows.{wellFormed};
+ghost use Rattle.tables.specs.Table.{goodTable};
+ghost use Rattle.choices.specs.State.{pool, posPlace, stateWords};
+ghost use Rattle.choices.specs.Messages.{best};
+ghost use Rattle.choices.specs.Effect.{after};
+ghost use Rattle.choices.specs.Step.{choiceReply, withSent};
+ghost use Rattle.choices.specs.Registers.{acted, actInto};
+
+// The reply to the choice of agent a at time t: 10 to 15, or 0.
+pub fn choice_reply(table: &[u32], state: &[u32], a: u32, t: u32) -> u32
+    requires { ⌜ (length (now table) ≡ tableWords) × (length (now state) ≡ stateWords) × (goodTable (now table) ≡ true) ⌝ }
+    ensures { λ r. ⌜ r ≡ choiceReply (now (table .entry)) (now (state .entry)) a t ⌝ }
+{
+    if table[0] <= a {
+        return NO_SUCH_AGENT;
+    }
+    let b = a as usize;
+    let p = state[1 + b] as usize;
+    if table[1 + b] as usize <= p {
+        return AGENT_ENDED;
+    }
+    if t < state[0] {
+        return BEFORE_CLOCK;
+    }
+    if t < table[81 + 4 * (32 * b + p) + 2] {
+        return BEFORE_EARLY;
+    }
+    let d = deadline(table, state);
+    if is_stuck(table, state, b, d) {
+        return STUCK;
+    }
+    if d < t {
+        return AFTER_LATE;
+    }
+    ACCEPTED
+}
+
+// The state of an agent after its row r.
+fn effect(table: &[u32], state: &[u32], s: Agent, r: Row) -> Agent
+    requires { ⌜ (tableWords ≤ length (now table)) × (stateWords ≤ length (now state)) × (agents (now table) ≤ 16) × (s .pos < 32) × (wellFormed r ≡ true) ⌝ }
+    ensures { λ q. ⌜ q ≡ after r (best (now (table .entry)) (pool (now (state .entry))) r) s ⌝ }
+{
+    let f = family_of(r.op);
+    match f {
+        Family::Local => s.local(r),
+        Family::Move => s.moved(r),
+        Family::Send => s.sent(r),
+        Family::Receive => s.received(r, find_best(table, state, r)),
+        // No good table has one.
+        Family::Unknown => s,
+    }
+}
+
+// The words that an accepted choice changes, but for the registers: s is the agent's state before its row r, p its position afterwards.
+fn put_choice(state: &mut [u32], a: usize, t: u32, r: Row, s: Agent, p: u32)
+    requires { ⌜ (stateWords ≤ length (now state)) × (a < 16) × (s .pos < 32) × (r .x ≤ 3) ⌝ }
+    ensures { λ _. ⌜ now (state .exit) ≡ withSent (set (set (now (state .entry)) 0 t) (posPlace a) p) a r s ⌝ }
+{
+    state[0] = t;
+    state[1 + a] = p;
+    if r.op != 0x20 {
+        return;
+    }
+    let regs = s.regs;
+    let q = 32 * a + s.pos as usize;
+    state[81 + q] = 1;
+    state[593 + q] = regs[r.x as usize];
+}
+
+// The accepted choice of agent a at time t, where own are the agent's registers: those among the state's words are neither read nor written.
+pub fn act(table: &[u32], state: &mut [u32], a: usize, t: u32, own: [u32; 4]) -> Agent
+    requires { ⌜ (length (now table) ≡ tableWords) × (length (now state) ≡ stateWords) × (goodTable (now table) ≡ true) × (choiceReply (now table) (now state) a t ≡ 0) ⌝ }
+    ensures { λ q. ⌜ ((g : List (List ℕ)) → getD g a [] ≡ own → acted q (now (state .exit)) ≡ actInto (now (table .entry)) (now (state .entry)) g a t) ⌝ }
+{
+    let s = Agent {
+        pos: state[1 + a],
+        regs: own,
+    };
+    let r = row_at(table, a, s.pos as usize);
+    let agent = effect(table, state, s, r);
+    put_choice(state, a, t, r, s, agent.pos);
+    agent
+}
