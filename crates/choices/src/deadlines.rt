@@ -1,4 +1,5 @@
 // The windows of the agents' current rows, in time linear in the agents: the deadline of them all, and whether any agent can go.
+use tables::rows::row_at;
 ghost use mathlib.Core.Path.{_≡_};
 ghost use mathlib.Core.Bool.{true, not, _||_};
 ghost use Prim.Native.Nat.{ℕ, _≤_, _<_, _^_};
@@ -20,7 +21,8 @@ fn deadline_of(table: &[u32], state: &[u32], b: usize) -> u32
     if table[1 + b] as usize <= p {
         return 4294967295;
     }
-    table[81 + 4 * (32 * b + p) + 3]
+    let r = row_at(table, b, p);
+    r.late
 }
 
 // The least late of the unfinished agents' current rows; the greatest number where all have ended. An agent past the count has no row to run, and
@@ -52,7 +54,8 @@ fn can_go(table: &[u32], state: &[u32], b: usize, d: u32) -> bool
     if d < state[0] {
         return false;
     }
-    table[81 + 4 * (32 * b + p) + 2] <= d
+    let r = row_at(table, b, p);
+    r.early <= d
 }
 
 // Whether no agent can go, where d is the deadline: agent a, which is chosen, is tried first.

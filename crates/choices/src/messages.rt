@@ -1,6 +1,7 @@
 // Which messages a row sees, and which of them it takes.
 use crate::Best;
 use tables::Row;
+use tables::rows::row_at;
 ghost use mathlib.Core.Path.{_≡_};
 ghost use mathlib.Core.Bool.{_&&_};
 ghost use Prim.Native.Nat.{_≤_, _<_};
@@ -16,18 +17,17 @@ fn is_better(table: &[u32], state: &[u32], r: Row, b: usize, i: usize, least: u3
     requires { ⌜ (tableWords ≤ length (now table)) × (stateWords ≤ length (now state)) × (b < 16) × (i < 32) ⌝ }
     ensures { λ q. ⌜ q ≡ (leb least (row (now (table .entry)) b i .late) && Messages.visible (now (table .entry)) (pool (now (state .entry))) r b i) ⌝ }
 {
-    let p = 32 * b + i;
-    let late = table[81 + 4 * p + 3];
-    if r.early <= late {
+    let sender = row_at(table, b, i);
+    if r.early <= sender.late {
         return false;
     }
-    if late < least {
+    if sender.late < least {
         return false;
     }
-    if state[81 + p] != 1 {
+    if state[81 + (32 * b + i)] != 1 {
         return false;
     }
-    table[81 + 4 * p + 1] == r.k
+    sender.k == r.k
 }
 
 // The message of row i of agent b.
@@ -35,31 +35,23 @@ fn message_at(table: &[u32], state: &[u32], b: usize, i: usize) -> Best
     requires { ⌜ (tableWords ≤ length (now table)) × (stateWords ≤ length (now state)) × (b < 16) × (i < 32) ⌝ }
     ensures { λ q. ⌜ q ≡ Message (row (now (table .entry)) b i .late) b i (value (now (state .entry)) b i) ⌝ }
 {
-    let p = 32 * b + i;
+    let sender = row_at(table, b, i);
     Best::Message {
-        late: table[81 + 4 * p + 3],
+        late: sender.late,
         agent: b,
         row: i,
-        value: state[593 + p],
+        value: state[593 + (32 * b + i)],
     }
 }
 
-// The late of row i of agent b.
-fn late_at(table: &[u32], b: usize, i: usize) -> u32
-    requires { ⌜ (tableWords ≤ length (now table)) × (b < 16) × (i < 32) ⌝ }
-    ensures { λ l. ⌜ l ≡ row (now (table .entry)) b i .late ⌝ }
-{
-    table[81 + 4 * (32 * b + i) + 3]
-}
-
-// Of the messages visible to the row r, the one that is taken: a higher row of the same agent goes before it with the same late, another agent only with a
-// later one.
+// Of the messages visible to the row r, the one that is taken: of two of one late that of the lower agent, and of the higher row of one agent.
 pub fn find_best(table: &[u32], state: &[u32], r: Row) -> Best
     requires { ⌜ (tableWords ≤ length (now table)) × (stateWords ≤ length (now state)) × (agents (now table) ≤ 16) ⌝ }
     ensures { λ q. ⌜ q ≡ Messages.best (now (table .entry)) (pool (now (state .entry))) r ⌝ }
 {
     let n = table[0] as usize;
     let mut m = Best::Nothing;
+    // The least late with which a message of the agents that follow goes before m, and with which one of this agent does.
     let mut least_of_next = 0;
     'agents: for b in 0..16 {
         let mut least = least_of_next;
@@ -69,7 +61,8 @@ pub fn find_best(table: &[u32], state: &[u32], r: Row) -> Best
             }
             if is_better(table, state, r, b, i, least) {
                 m = message_at(table, state, b, i);
-                least = late_at(table, b, i);
+                let sender = row_at(table, b, i);
+                least = sender.late;
                 least_of_next = least + 1;
             }
         }

@@ -44,7 +44,8 @@ pub fn choice_reply(table: &[u32], state: &[u32], a: u32, t: u32) -> u32
     if t < state[0] {
         return BEFORE_CLOCK;
     }
-    if t < table[81 + 4 * (32 * b + p) + 2] {
+    let r = row_at(table, b, p);
+    if t < r.early {
         return BEFORE_EARLY;
     }
     let d = deadline(table, state);

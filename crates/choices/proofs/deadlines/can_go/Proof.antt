@@ -19,7 +19,7 @@ shared-slice-read-p : tie.Need-shared-slice-read-p
 shared-slice-read-p c = search needs
 
 cast-p : tie.Need-cast-p
-cast-p c = omega (arith, c .shared-slice-known .given (1 + c .before .args .b))
+cast-p c = omega (arith, c .shared-slice-known3 .given (1 + c .before .before .before .args .b))
 
 add-if1 : tie.Need-add-if1
 add-if1 c = search needs
@@ -42,41 +42,23 @@ shared-slice-read-if2 c = search needs
 returns-2 : tie.Need-returns-2
 unfolding rowOf
 returns-2 c =
-    let g = c .before .before .before .before .before .args in
-    sym (late-stays (g .table .now) (g .state .now) (g .b) (g .d) (c .before .before .before .before .before .pre .1) (c .before .before .if1 .left)
-    (omega (arith, c .before .shared-slice-known3 .given 0))
-    (omega (arith, c .before .before .before .shared-slice-known2 .given (81 + 4 * (32 * g .b + pos (g .state .now) (g .b)) + 2)))
+    let g = c .before .before .before .before .before .before .before .args in
+    sym (late-stays (g .table .now) (g .state .now) (g .b) (g .d) (c .before .before .before .before .before .before .before .pre .1) (c .before .before .if1 .left)
+    (omega (arith, c .before .shared-slice-known5 .given 0))
+    (omega (arith, c .before .before .before .shared-slice-known4 .given (81 + 4 * (32 * g .b + pos (g .state .now) (g .b)) + 2)))
     (c .if2 .taken))
 
-mul-result : tie.Need-mul-result
-mul-result c = search needs
-
-add-result : tie.Need-add-result
-add-result c = search needs
-
-mul-result-2 : tie.Need-mul-result-2
-mul-result-2 c = search needs
-
-add-result-2 : tie.Need-add-result-2
-add-result-2 c = search needs
-
-add-result-3 : tie.Need-add-result-3
-add-result-3 c = search needs
-
-mul-result-3 : tie.Need-mul-result-3
-mul-result-3 c = search needs
-
-shared-slice-read-result : tie.Need-shared-slice-read-result
-shared-slice-read-result c = search needs
+row-at-requires : tie.Need-row-at-requires
+row-at-requires c κs = search needs
 
 returns-3 : tie.Need-returns-3
 unfolding rowOf
 returns-3 c =
-    let g = c .before .before .before .before .before .before .args in
-    sym (early-goes (g .table .now) (g .state .now) (g .b) (g .d) (c .before .before .before .before .before .before .pre .1) (c .before .before .before .if1 .left)
-    (omega (arith, c .before .before .shared-slice-known3 .given 0))
-    (omega (arith, c .shared-slice-known4 .given (81 + 4 * (32 * g .b + pos (g .state .now) (g .b)) + 2)))
-    (c .before .if2 .left))
+    let g = c .before .before .before .before .before .before .before .before .before .args in
+    rw (c .before .row-at .ensures) (sym (early-goes (g .table .now) (g .state .now) (g .b) (g .d) (c .before .before .before .before .before .before .before .before .before .pre .1) (c .before .before .before .before .if1 .left)
+    (omega (arith, c .before .before .before .shared-slice-known5 .given 0))
+    (omega (arith, c .before .before .before .before .before .shared-slice-known4 .given (81 + 4 * (32 * g .b + pos (g .state .now) (g .b)) + 2)))
+    (c .before .before .if2 .left)))
 
 pub can-go-spec : {M : Type 1} → statement M
 can-go-spec =
@@ -93,11 +75,5 @@ can-go-spec =
     returns
     shared-slice-read-if2
     returns-2
-    mul-result
-    add-result
-    mul-result-2
-    add-result-2
-    add-result-3
-    mul-result-3
-    shared-slice-read-result
+    row-at-requires
     returns-3)

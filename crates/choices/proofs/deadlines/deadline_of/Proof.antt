@@ -2,7 +2,6 @@
 use Prim.Native.Nat.{_+_}
 use native.Mathlib.Omega.{arith}
 use Rattle.choices.proofs.Deadline.{ended-limit, row-limit}
-use Rattle.tables.specs.Layout.{rowOf}
 use borrow.Author.Needs.{needs}
 use Rattle.choices.proofs.deadlines.deadline_of.Statement.{statement}
 use Rattle.choices.proofs.deadlines.deadline_of.Tie as tie
@@ -17,7 +16,7 @@ shared-slice-read-p : tie.Need-shared-slice-read-p
 shared-slice-read-p c = search needs
 
 cast-p : tie.Need-cast-p
-cast-p c = omega (arith, c .shared-slice-known .given (1 + c .before .args .b))
+cast-p c = omega (arith, c .shared-slice-known3 .given (1 + c .before .before .before .args .b))
 
 add-if1 : tie.Need-add-if1
 add-if1 c = search needs
@@ -34,30 +33,11 @@ cast-if1 c = search needs
 returns : tie.Need-returns
 returns c t w = ended-limit _ _ _ (c .if1 .taken) t w
 
-mul-result : tie.Need-mul-result
-mul-result c = search needs
-
-add-result : tie.Need-add-result
-add-result c = search needs
-
-mul-result-2 : tie.Need-mul-result-2
-mul-result-2 c = search needs
-
-add-result-2 : tie.Need-add-result-2
-add-result-2 c = search needs
-
-add-result-3 : tie.Need-add-result-3
-add-result-3 c = search needs
-
-mul-result-3 : tie.Need-mul-result-3
-mul-result-3 c = search needs
-
-shared-slice-read-result : tie.Need-shared-slice-read-result
-shared-slice-read-result c = search needs
+row-at-requires : tie.Need-row-at-requires
+row-at-requires c κs = search needs
 
 returns-2 : tie.Need-returns-2
-unfolding rowOf
-returns-2 c t w = row-limit _ _ _ (c .before .if1 .left) t
+returns-2 c t w = rw (c .row-at .ensures) (row-limit _ _ _ (c .before .if1 .left) t)
 
 pub deadline-of-spec : {M : Type 1} → statement M
 deadline-of-spec =
@@ -72,11 +52,5 @@ deadline-of-spec =
     shared-slice-read-if1
     cast-if1
     returns
-    mul-result
-    add-result
-    mul-result-2
-    add-result-2
-    add-result-3
-    mul-result-3
-    shared-slice-read-result
+    row-at-requires
     returns-2)

@@ -8,6 +8,7 @@ use native.Mathlib.Numerals.{add-one}
 use Prim.Native.Nat.{_*_, _+_, _-_, _≤_}
 use denote.Ref.{now}
 use Rattle.tables.specs.Layout.{agents}
+use Rattle.tables.specs.declared.Row.{Row}
 use Rattle.choices.specs.State.{pool}
 use Rattle.choices.specs.Messages.{lookRows, lookAgents, best}
 use Rattle.choices.proofs.messages.find_best.Statement.{statement}
@@ -47,8 +48,8 @@ is-better-requires c κs = omega arith
 message-at-requires : tie.Need-message-at-requires Inv-loop μ-loop Inv-agents μ-agents
 message-at-requires c κs = omega arith
 
-late-at-requires : tie.Need-late-at-requires Inv-loop μ-loop Inv-agents μ-agents
-late-at-requires c κs = omega arith
+row-at-requires : tie.Need-row-at-requires Inv-loop μ-loop Inv-agents μ-agents
+row-at-requires c κs = omega arith
 
 add-least-of-next : tie.Need-add-least-of-next Inv-loop μ-loop Inv-agents μ-agents
 add-least-of-next c =
@@ -57,7 +58,8 @@ add-least-of-next c =
     let l = c .before .before .before .before .before .before .loop in
     let h = better-early (g .table .now) (pool (g .state .now)) (g .r) b (l .i) (l .least) (sym (c .before .before .if2 .taken) ∙ c .before .before .before .is-better .ensures) in
     let w = c .before .before .before .before .before .before .before .before .before .before .before .before .good .1 .1 .0 in
-    omega (arith, h, w .1 .1 .1 .1 .1 .0, c .late-at .ensures)
+    let e = ap (λ (x : Row). x .late) (c .row-at .ensures) in
+    omega (arith, h, w .1 .1 .1 .1 .1 .0)
 
 add-i : tie.Need-add-i Inv-loop μ-loop Inv-agents μ-agents
 add-i c = omega arith
@@ -76,7 +78,7 @@ loop-again c =
       omega arith,
       ⊎-elim
           (λ u. one-better (g .table .now) (pool (g .state .now)) (g .r) (o .b) (o .m) (l .i) (l .m) (l .least-of-next) (l .least) (l .inv .2) (j .m) (j .least-of-next) (j .least)
-          (u .3 ∙ u .1 .ensures) (u .4 ∙ ap (λ x. x + 1) (u .2 .ensures)) (u .5 ∙ u .2 .ensures) (sym (u .0 .taken) ∙ q))
+          (u .3 ∙ u .1 .ensures) (u .4 ∙ ap (λ (x : Row). x .late + 1) (u .2 .ensures)) (u .5 ∙ ap (λ (x : Row). x .late) (u .2 .ensures)) (sym (u .0 .taken) ∙ q))
           (λ u. one-left (g .table .now) (pool (g .state .now)) (g .r) (o .b) (o .m) (l .i) (l .m) (l .least-of-next) (l .least) (l .inv .2) (j .m) (j .least-of-next) (j .least)
           (u .1) (u .2) (u .3) (sym (u .0 .left) ∙ q))
           (j .came),
@@ -126,7 +128,7 @@ find-best-spec =
     loop-holds
     is-better-requires
     message-at-requires
-    late-at-requires
+    row-at-requires
     add-least-of-next
     add-i
     loop-less
