@@ -1,4 +1,4 @@
--- Demand 3 of the public call `run`, proved, whatever lent words it is made in.
+-- Demand 3 of the public call `run`, proved, whatever lent words it is made in; and demand 2 of it.
 use mathlib.Core.Path.{_≡_, refl, sym, ap, ap₂, subst₂, _∙_}
 use mathlib.Core.Bool.{Bool, true, false, cond}
 use mathlib.Core.List.{List, [], _∷_, _++_}
@@ -20,7 +20,7 @@ use Rattle.choices.proofs.Lists.{part-same}
 use Rattle.executive.proofs.Ready.{part-is}
 use Rattle.executive.proofs.OneByOne.{ran}
 use Rattle.demands.specs.Demand2.{Table, State}
-use Rattle.demands.specs.Runs.{comesTo, passed}
+use Rattle.demands.specs.Runs.{comesTo, passed, RunCallIsModels}
 use Rattle.demands.specs.Demand3.{OneBegins, Deterministic, AllEnded, SameEnds}
 use Rattle.demands.proofs.Demand2.{start-is-models}
 use Rattle.demands.proofs.Behaves.{run-is-models}
@@ -135,3 +135,8 @@ same-ends tb st st′ cs ds e e′ end end′ =
     ap (drop 1) (record-is tb st table long cs e)
     ∙ same-ends-from (tablePart tb) (startWords (tablePart tb)) cs ds table (start-is-models (tablePart tb) table .0) (ended-from tb st table long cs e end) (ended-from tb st′ table long′ ds e′ end′)
     ∙ sym (ap (drop 1) (record-is tb st′ table long′ ds e′))
+
+pub run-call-is-models : RunCallIsModels
+run-call-is-models tb st cs e =
+    let (table, _) = run-table tb st cs e in
+    (ran tb st cs e, run-is-models (tablePart tb) (startWords (tablePart tb)) cs table (start-is-models (tablePart tb) table .0))

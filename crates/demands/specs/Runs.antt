@@ -1,4 +1,4 @@
--- Demand 2 of a run: it is a behaviour of the published model. The statement; proofs/Behaves proves it.
+-- Demand 2 of a run: it is a behaviour of the published model. The statements; proofs/Behaves proves that of any state that fits, proofs/Lent that of the public call.
 use mathlib.Core.Path.{_≡_}
 use mathlib.Core.Bool.{cond}
 use mathlib.Core.List.{List, [], _∷_, _++_}
@@ -9,8 +9,9 @@ use lib.ListN.{take, drop, getD}
 use Rattle.pharos.specs.Published.{Types, SystemState, Behaviour, first, append, filter}
 use Rattle.tables.specs.Layout.{agents}
 use Rattle.choices.specs.declared.Agent.{Agent}
-use Rattle.choices.specs.State.{agentAt}
+use Rattle.choices.specs.State.{agentAt, startWords}
 use Rattle.executive.specs.Run.{RunOutcome, runFrom}
+use Rattle.executive.specs.Calls.{tablePart, pastState, before, runRefusal, runInto}
 use Rattle.demands.specs.Reasons.{Reply}
 use Rattle.demands.specs.Instance.{published, decode}
 use Rattle.demands.specs.Demand2.{Table, State}
@@ -49,3 +50,9 @@ pub record Behaves (tb st cs : List ℕ) : Type 0 where
 
 abbrev pub RunIsModels : Type 0
 RunIsModels = (tb st cs : List ℕ) → Table tb → State tb st → Behaves tb st cs
+
+-- The public call. A run that begins leaves what the run from the table's start state leaves, with the words past the state as they were; and that run is a
+-- behaviour of the model.
+abbrev pub RunCallIsModels : Type 0
+RunCallIsModels = (tb st cs : List ℕ) → runRefusal tb st cs ≡ 0
+    → (runInto tb st cs ≡ before (runFrom (tablePart tb) (startWords (tablePart tb)) 0 cs) (pastState st)) × Behaves (tablePart tb) (startWords (tablePart tb)) cs
