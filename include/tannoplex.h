@@ -7,7 +7,9 @@
  * decided by the table and the state; in whatever order the choices come, each agent passes through
  * the same states.
  *
- * Link with libboard.a (`rt staticlib board` writes it to target/staticlib), for x86-64.
+ * Link with libboard.a (`rt staticlib board` writes it to target/staticlib), for x86-64. It takes
+ * memcpy and memset from the C library, and nothing else. Stack, read off the compiled code and
+ * covered by no proof: tannoplex_trace under 24 KiB, tannoplex_read under 9 KiB, the others under 2.
  *
  * Buffers
  *   The caller lends every buffer for the time of the call, with its length: in bytes for text, in
