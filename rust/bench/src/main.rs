@@ -42,7 +42,9 @@ fn print_table() {
     println!(
         "is the proved time over that before it. `narrow` is `quick` with a search of the rows below"
     );
-    println!("the positions alone (T-06). `sum` adds up the words that the call is lent, the bytes of");
+    println!(
+        "the positions alone (T-06). `sum` adds up the words that the call is lent, the bytes of"
+    );
     println!("the text for read. Done to the buffers between calls:");
     println!();
     for (name, between) in between {
