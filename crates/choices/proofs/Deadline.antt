@@ -1,6 +1,6 @@
 -- The deadline of all agents: a time is in time where it is not above it; what an agent that has ended, or not, adds to it. Assumes nothing.
 use mathlib.Core.Path.{_≡_, refl, sym, _∙_}
-use mathlib.Core.Bool.{Bool, true, false, not, _&&_, _||_}
+use mathlib.Core.Bool.{Bool, true, false, not, _&&_, _||_, and-false}
 use mathlib.Core.List.{List}
 use Prim.Native.Nat.{ℕ, zero, suc, _+_, _≤_, _<_, _^_, max}
 use native.Mathlib.Decide.{decLe, ℕ-discrete}
@@ -8,6 +8,7 @@ use native.Mathlib.Numerals.{add-one}
 use native.Mathlib.Omega.{arith}
 use lib.Dec.{leb}
 use borrow.Author.Tests.{le-leb, lt-leb, le-ltb, lt-ltb}
+use Rattle.tables.proofs.Tests.{and-yes}
 use Rattle.tables.specs.Basics.{allBelow}
 use Rattle.tables.specs.Layout.{agents, rows, row}
 use Rattle.tables.specs.Table.{goodTable}
@@ -27,10 +28,6 @@ unfolding allBelow
 below-more n zero f h k = let e : n ≡ 0 = omega arith in rw e
 below-more n (suc m) f h k = go (ℕ-discrete n (suc m)) (λ l. below-more n m f l (λ b u v. k b u (omega arith)))
   where
-    and-yes : (x y : Bool) → y ≡ true → (x && y) ≡ x
-    and-yes true y e = e
-    and-yes false y e = refl
-
     go : Dec (n ≡ suc m) → (n ≤ m → allBelow m f ≡ allBelow n f) → allBelow (suc m) f ≡ allBelow n f
     go (yes e) rest = rw e
     go (no d) rest = and-yes (allBelow m f) (f m) (k m (omega arith) (omega arith)) ∙ rest (omega arith)
@@ -57,11 +54,7 @@ leb-less t d e h = go (decLe t e)
   where
     go : Dec (t ≤ e) → (leb t d && leb t e) ≡ leb t e
     go (yes l) = rw (le-leb t d (omega arith))
-    go (no n) = rw (lt-leb t e (omega arith)) (and-none (leb t d))
-      where
-        and-none : (x : Bool) → (x && false) ≡ false
-        and-none true = refl
-        and-none false = refl
+    go (no n) = rw (lt-leb t e (omega arith)) (and-false (leb t d))
 
 pub leb-more : (t d e : ℕ) → d ≤ e → (leb t d && leb t e) ≡ leb t d
 leb-more t d e h = go (decLe t d)

@@ -1,6 +1,6 @@
 -- One place looked at, where the lates that go before the best so far are those from a least one on. Assumes nothing.
 use mathlib.Core.Path.{_≡_, refl, sym, ap, _∙_}
-use mathlib.Core.Bool.{Bool, true, false, _&&_, cond, false≢true}
+use mathlib.Core.Bool.{Bool, true, false, _&&_, cond, and-true, and-false, and-comm}
 use mathlib.Core.List.{List}
 use Prim.Native.Nat.{ℕ, _+_, _<_, _≤_}
 use native.Mathlib.Decide.{decLt, ℕ-discrete}
@@ -10,7 +10,8 @@ use lib.Dec.{leb, ltb, eqb}
 use borrow.Author.Tests.{lt-ltb, le-ltb, le-leb, lt-leb, eq-eqb, ne-eqb, ltb-true}
 use Rattle.tables.specs.Layout.{row}
 use Rattle.tables.specs.declared.Row.{Row}
-use Rattle.tables.proofs.Passed.{and-1, and-2}
+use Rattle.tables.proofs.Tests.{and-right}
+use Rattle.tables.proofs.Passed.{and-2}
 use Rattle.choices.specs.State.{Pool}
 use Rattle.choices.specs.Messages.{visible, beats, look, lookRows}
 use Rattle.choices.specs.declared.Best.{Best}
@@ -64,32 +65,19 @@ module _ (tb : List ℕ) (p : Pool) (r : Row) (b i least : ℕ) where
 
   pub too-late : r .early ≤ late → Better false
   unfolding visible
-  too-late h = go (leb least late) (eqb (p .mark b i) 1) (eqb (row tb b i .k) (r .k)) (le-ltb _ _ h)
-    where
-      go : (x y z : Bool) → ltb late (r .early) ≡ false → false ≡ (x && (y && z && ltb late (r .early)))
-      go true true true h = sym h
-      go true true false h = refl
-      go true false z h = refl
-      go false y z h = refl
+  too-late h =
+      sym (and-right (leb least late) (visible tb p r b i) (and-right (eqb (p .mark b i) 1 && eqb (row tb b i .k) (r .k)) (ltb late (r .early)) (le-ltb _ _ h)))
 
   pub too-low : late < least → Better false
   too-low h = rw (lt-leb _ _ h)
 
   pub not-sent : (p .mark b i ≡ 1 → ⊥) → Better false
   unfolding visible
-  not-sent h = rw (ne-eqb _ _ h) (go (leb least late))
-    where
-      go : (x : Bool) → false ≡ (x && false)
-      go true = refl
-      go false = refl
+  not-sent h = rw (ne-eqb _ _ h) (sym (and-false (leb least late)))
 
   pub sent : least ≤ late → late < r .early → p .mark b i ≡ 1 → Better (eqb (row tb b i .k) (r .k))
   unfolding visible
-  sent h l e = rw (le-leb _ _ h, eq-eqb _ _ e, lt-ltb _ _ l) (go (eqb (row tb b i .k) (r .k)))
-    where
-      go : (x : Bool) → x ≡ (x && true)
-      go true = refl
-      go false = refl
+  sent h l e = rw (le-leb _ _ h, eq-eqb _ _ e, lt-ltb _ _ l) (sym (and-true (eqb (row tb b i .k) (r .k))))
 
   -- ---- what they tell
 
@@ -102,19 +90,11 @@ module _ (tb : List ℕ) (p : Pool) (r : Row) (b i least : ℕ) where
   better-early h = seen-early (and-2 (leb least late) (visible tb p r b i) (sym h))
 
   module _ (m : Best) (from : LeastFrom b i least m) where
-    look-better : Better true → look tb p r b i m ≡ Message late b i (p .value b i)
+    looked : (q : Bool) → Better q → look tb p r b i m ≡ cond q (Message late b i (p .value b i)) m
     unfolding look
-    look-better h = rw (from late i (omega arith), and-1 (leb least late) (visible tb p r b i) (sym h), and-2 (leb least late) (visible tb p r b i) (sym h))
-
-    look-stays : Better false → look tb p r b i m ≡ m
-    unfolding look
-    look-stays h =
-        ap (λ x. cond (visible tb p r b i && x) (Message late b i (p .value b i)) m) (from late i (omega arith)) ∙ go (visible tb p r b i) (leb least late) h
-      where
-        go : (x y : Bool) → false ≡ (y && x) → cond (x && y) (Message late b i (p .value b i)) m ≡ m
-        go true true h = absurd (false≢true h)
-        go true false h = refl
-        go false y h = refl
+    looked q h =
+        ap (λ (v : Bool). cond v (Message late b i (p .value b i)) m)
+        (ap (_&&_ (visible tb p r b i)) (from late i (omega arith)) ∙ and-comm (visible tb p r b i) (leb least late) ∙ sym h)
 
 -- ---- the search so far
 
@@ -130,7 +110,7 @@ module _ (tb : List ℕ) (p : Pool) (r : Row) (b : ℕ) (m₀ : Best) (i : ℕ) 
     unfolding lookRows
     one-better e f g h =
         rw (e, f, g) (
-          rw (add-one i) (sym (look-better tb p r b i least m (so-far .1) h) ∙ ap (look tb p r b i) (so-far .0)),
+          rw (add-one i) (sym (looked tb p r b i least m (so-far .1) true h) ∙ ap (look tb p r b i) (so-far .0)),
           of-its-agent (row tb b i .late) b i (p .value b i),
           of-later-agents (row tb b i .late) b i (p .value b i),
         )
@@ -139,7 +119,7 @@ module _ (tb : List ℕ) (p : Pool) (r : Row) (b : ℕ) (m₀ : Best) (i : ℕ) 
     unfolding lookRows
     one-left e f g h =
         rw (e, f, g) (
-          rw (add-one i) (sym (look-stays tb p r b i least m (so-far .1) h) ∙ ap (look tb p r b i) (so-far .0)),
+          rw (add-one i) (sym (looked tb p r b i least m (so-far .1) false h) ∙ ap (look tb p r b i) (so-far .0)),
           λ l j k. so-far .1 l j (omega arith),
           so-far .2,
         )

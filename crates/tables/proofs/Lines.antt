@@ -1,6 +1,6 @@
 -- Strings of bytes, digits and numbers, a byte at a time; and the lines of a text: they are the text, and each ends at its newline. Assumes nothing.
 use mathlib.Core.Path.{_≡_, refl, sym, ap, _∙_}
-use mathlib.Core.Bool.{Bool, true, false, _&&_, cond}
+use mathlib.Core.Bool.{Bool, true, false, _&&_, cond, and-true, and-assoc}
 use mathlib.Core.Logic.{_⊎_, inl, inr}
 use mathlib.Core.List.{List, [], _∷_}
 use Prim.Native.Nat.{ℕ, zero, suc, _+_, _-_, _*_, _/_, _%_, _≤_, _<_, _^_}
@@ -15,14 +15,6 @@ use Rattle.tables.specs.Lines.{same, newline, hexDigit, allHex, number, 
 use Rattle.tables.specs.Heads.{digitsAt}
 use Rattle.tables.proofs.Tests.{and-left, and-right}
 use Rattle.tables.proofs.Passed.{and-1, and-2}
-
-and-assoc : (a b c : Bool) → (a && (b && c)) ≡ ((a && b) && c)
-and-assoc true b c = refl
-and-assoc false b c = refl
-
-and-true : (a : Bool) → (a && true) ≡ a
-and-true true = refl
-and-true false = refl
 
 -- ---- the same string
 
@@ -95,7 +87,7 @@ hex-more [] n h = absurd (omega arith)
 hex-more (x ∷ l) zero h = and-true (ltb (hexDigit x) 16)
 hex-more (x ∷ l) (suc n) h =
     ap (λ (b : Bool). ltb (hexDigit x) 16 && b) (hex-more l n (omega arith))
-    ∙ and-assoc (ltb (hexDigit x) 16) (allHex (take n l)) (ltb (hexDigit (getD l n 0)) 16)
+    ∙ sym (and-assoc (ltb (hexDigit x) 16) (allHex (take n l)) (ltb (hexDigit (getD l n 0)) 16))
 
 -- one digit more
 pub hex-go : (l : List ℕ) (n : ℕ) → n < length l → allHex (take n l) ≡ true → hexDigit (getD l n 0) < 16 → allHex (take (n + 1) l) ≡ true

@@ -1,6 +1,6 @@
 -- Words that are 0 from one place to another: one place more, and what it says of each place. Assumes nothing.
 use mathlib.Core.Path.{_≡_, refl, sym, ap, _∙_}
-use mathlib.Core.Bool.{Bool, true, false, _&&_}
+use mathlib.Core.Bool.{Bool, true, false, _&&_, and-true, and-assoc}
 use mathlib.Core.List.{List, [], _∷_}
 use Prim.Native.Nat.{ℕ, zero, suc, _+_, _-_, _≤_, _<_}
 use native.Mathlib.Omega.{arith}
@@ -12,20 +12,12 @@ use Rattle.tables.proofs.Tests.{and-right, and-yes}
 use Rattle.tables.proofs.Passed.{below, all-below}
 use Rattle.tables.specs.Basics.{allZero, allBelow, zeroFrom}
 
-and-assoc : (a b c : Bool) → (a && (b && c)) ≡ ((a && b) && c)
-and-assoc true b c = refl
-and-assoc false b c = refl
-
 more : (l : List ℕ) (n : ℕ) → allZero (take (suc n) l) ≡ (allZero (take n l) && eqb (getD l n 0) 0)
 unfolding allZero
 more [] zero = refl
 more [] (suc n) = refl
 more (x ∷ l) zero = and-true (eqb x 0)
-  where
-    and-true : (a : Bool) → (a && true) ≡ a
-    and-true true = refl
-    and-true false = refl
-more (x ∷ l) (suc n) = ap (λ (b : Bool). eqb x 0 && b) (more l n) ∙ and-assoc (eqb x 0) (allZero (take n l)) (eqb (getD l n 0) 0)
+more (x ∷ l) (suc n) = ap (λ (b : Bool). eqb x 0 && b) (more l n) ∙ sym (and-assoc (eqb x 0) (allZero (take n l)) (eqb (getD l n 0) 0))
 
 pub zero-none : (ws : List ℕ) (i : ℕ) → zeroFrom ws i i ≡ true
 unfolding zeroFrom allZero
