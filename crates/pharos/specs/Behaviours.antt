@@ -1,14 +1,14 @@
 -- Determinacy of the published model: a corollary, since its steps are the abstract model's.
 use mathlib.Core.Path.{_≡_, refl, ap, sym, subst, subst₂, _∙_, fun-ext}
 use mathlib.Core.Bool.{true}
-use mathlib.Core.List.{[], _∷_, _++_}
+use mathlib.Core.List.{List, [], _∷_, _++_, map, reverse}
 use mathlib.Core.Logic.{_⊎_, ite}
 use Prim.Native.Nat.{ℕ, _<_}
 use native.Mathlib.Decide.{ℕ-discrete}
 use Rattle.pharos.specs.Published.{Types, SystemState, Assumptions, Behaviour, first, append, filter}
 use Rattle.pharos.specs.Tail.{Prefix}
 use Rattle.pharos.specs.Model.{Agent, System, Good, step, Run, start, _▸_}
-use Rattle.pharos.specs.Determinacy.{history, history-step, determinacy-of-states, Ended, same-end}
+use Rattle.pharos.specs.Determinacy.{history, history-step, determinacy-of-states, Ended, same-end, same-traces}
 use Rattle.pharos.specs.Instance.{model, system, executes-is-step}
 
 abbrev pub AllEnded : (T : Types) → SystemState T → Type 0
@@ -58,3 +58,12 @@ module _ (T : Types) (ok : Assumptions T) where
         fun-ext λ b. ap (λ (x : ℕ → Agent (model T ok)). x b .state) agents-same,
         fun-ext λ b. ap (λ (x : ℕ → Agent (model T ok)). x b .sent) agents-same,
       )
+
+  -- and have taken every agent through the same states.
+  pub same-courses : {g h f : SystemState T} (r : Behaviour T g h) (q : Behaviour T g f) → AllEnded T h → AllEnded T f → (b : ℕ) → filter T r b ≡ filter T q b
+  same-courses r q end end′ b =
+      let x = abstracted r in
+      let y = abstracted q in
+      x .passed b
+      ∙ ap (λ (l : List (Agent (model T ok))). reverse (map (λ x. x .state) l)) (same-traces (x .run) (y .run) (subst (λ g. Ended g) (x .here) end) (subst (λ g. Ended g) (y .here) end′) b)
+      ∙ sym (y .passed b)
