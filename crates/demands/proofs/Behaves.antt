@@ -8,7 +8,7 @@ use native.Mathlib.Nat.{add-zero, zero-add}
 use native.Mathlib.Decide.{ℕ-discrete}
 use native.Mathlib.Omega.{arith}
 use lib.Dec.{eqb}
-use lib.ListN.{getD, take, drop}
+use lib.ListN.{take, drop}
 use borrow.Author.Tests.{eq-eqb, ne-eqb}
 use Rattle.pharos.specs.Published.{SystemState, Behaviour, first, append, filter}
 use Rattle.tables.proofs.Good.{few}
@@ -18,61 +18,51 @@ use Rattle.choices.specs.Step.{choiceReply, accepted}
 use Rattle.executive.specs.Run.{RunOutcome, ended, runFrom}
 use Rattle.executive.proofs.Runs.{run-go, run-stop}
 use Rattle.demands.specs.Instance.{published, decode, stateOf}
-use Rattle.demands.specs.Demand2.{Table, State, Choice}
-use Rattle.demands.specs.Runs.{comesTo, stepsOf, Stops, at-end, at-word, at-reason, RunIsModels}
+use Rattle.demands.specs.Demand2.{Table, Fitting, Choice}
+use Rattle.demands.specs.Steps.{Step, stepsFrom, comesTo}
+use Rattle.demands.specs.Runs.{countOf, choicesOf, Stops, at-end, at-word, at-reason, RunIsModels}
 use Rattle.demands.proofs.Decode.{state-low}
 use Rattle.demands.proofs.Demand2.{choice-is-models}
-
--- the first choice of a run, and the rest of it
-module _ (run rest : List ℕ → RunOutcome) (a t : ℕ) (cs : List ℕ) (b : ℕ) (on : (l : List ℕ) → run (a ∷ t ∷ l) .state ≡ rest l .state) where
-  came : (k : ℕ) → comesTo run (a ∷ t ∷ cs) b (suc k) ≡ cond (eqb a b) (agentAt (rest [] .state) b ∷ []) [] ++ comesTo rest cs b k
-  unfolding comesTo
-  came zero = ap (λ (st : List ℕ). cond (eqb a b) (agentAt st b ∷ []) []) (on []) ∙ sym (append-nil _)
-  came (suc k) =
-      let e : 2 * suc k ≡ suc (suc (2 * k)) = omega arith in
-      let d : 2 * suc (suc k) ≡ suc (suc (2 * suc k)) = omega arith in
-      ap₂ _++_ (came k)
-      (ap₂ (λ (c : ℕ) (st : List ℕ). cond (eqb c b) (agentAt st b ∷ []) [])
-      (ap (λ (i : ℕ). getD (a ∷ t ∷ cs) i 0) e)
-      (ap (λ (i : ℕ). run (take i (a ∷ t ∷ cs)) .state) d ∙ on (take (2 * suc k) cs)))
-      ∙ append-assoc (cond (eqb a b) (agentAt (rest [] .state) b ∷ []) []) _ _
+use Rattle.demands.proofs.Made.{steps-go, steps-stop}
 
 -- a step adds to what its own agent has passed through
 grows : (tb st : List ℕ) (a b : ℕ) → b < 16 → (h z : List Agent) (d : Dec (a ≡ b))
-    → ite d (h ++ (stateOf tb st b ∷ [])) h ++ z ≡ h ++ (cond (eqb a b) (agentAt st b ∷ []) [] ++ z)
-grows tb st a b low h z (yes e) = rw (eq-eqb a b e, state-low tb st b low) (append-assoc h (agentAt st b ∷ []) z)
+    → ite d (h ++ (stateOf tb st b ∷ [])) h ++ z ≡ h ++ cond (eqb a b) (agentAt st a ∷ z) z
+grows tb st a b low h z (yes e) = rw (eq-eqb a b e, state-low tb st b low, e) (append-assoc h (agentAt st b ∷ []) z)
 grows tb st a b low h z (no n) = rw (ne-eqb a b n)
 
 module _ (tb : List ℕ) (table : Table tb) where
-  -- how a run of n accepted steps, the behaviour r, goes on: with the choices cs of `run` to the outcome `out`
-  record Goes {g h : SystemState (published tb)} (r : Behaviour (published tb) g h) (n : ℕ) (run : List ℕ → RunOutcome) (cs : List ℕ) (out : RunOutcome) : Type 0 where
+  -- how a run of n accepted steps, the behaviour r, goes on: with the choices cs from the state st to the outcome `out`
+  record Goes {g h : SystemState (published tb)} (r : Behaviour (published tb) g h) (n : ℕ) (st cs : List ℕ) (out : RunOutcome) : Type 0 where
     steps : ℕ
     counted : out .count ≡ n + steps
     stops : Stops (decode tb (out .state)) (drop (2 * steps) cs) (out .reply)
-    state : State tb (out .state)
+    state : Fitting tb (out .state)
     behaviour : Behaviour (published tb) g (decode tb (out .state))
-    stepped : stepsOf behaviour ≡ stepsOf r + steps
-    filtered : (b : ℕ) → b < 16 → filter (published tb) behaviour b ≡ filter (published tb) r b ++ comesTo run cs b steps
+    stepped : countOf behaviour ≡ countOf r + steps
+    chosen : choicesOf behaviour ≡ choicesOf r ++ take (2 * steps) cs
+    filtered : (b : ℕ) → b < 16 → filter (published tb) behaviour b ≡ filter (published tb) r b ++ comesTo b (stepsFrom tb st cs)
 
   -- it is at its end
-  stays : {g : SystemState (published tb)} (st : List ℕ) (n x : ℕ) (run : List ℕ → RunOutcome) (cs : List ℕ) → State tb st
-      → (r : Behaviour (published tb) g (decode tb st)) → Stops (decode tb st) cs x → Goes r n run cs (ended x n st)
+  stays : {g : SystemState (published tb)} (st : List ℕ) (n x : ℕ) (cs : List ℕ) → Fitting tb st → stepsFrom tb st cs ≡ []
+      → (r : Behaviour (published tb) g (decode tb st)) → Stops (decode tb st) cs x → Goes r n st cs (ended x n st)
   unfolding comesTo
-  stays st n x run cs state r stops = record {
+  stays st n x cs state none-left r stops = record {
     steps = 0;
     counted = sym (add-zero n);
     stops = stops;
     state = state;
     behaviour = r;
     stepped = sym (add-zero _);
-    filtered = λ b _. sym (append-nil _);
+    chosen = sym (append-nil _);
+    filtered = λ b _. rw none-left (sym (append-nil _));
   }
 
-  goes : (cs st : List ℕ) (n : ℕ) → State tb st → {g : SystemState (published tb)} (r : Behaviour (published tb) g (decode tb st))
-      → Goes r n (runFrom tb st n) cs (runFrom tb st n cs)
-  unfolding runFrom
-  goes [] st n state r = stays st n 0 (runFrom tb st n) [] state r at-end
-  goes (a ∷ []) st n state r = stays st n 0 (runFrom tb st n) (a ∷ []) state r at-word
+  goes : (cs st : List ℕ) (n : ℕ) → Fitting tb st → {g : SystemState (published tb)} (r : Behaviour (published tb) g (decode tb st))
+      → Goes r n st cs (runFrom tb st n cs)
+  unfolding runFrom stepsFrom comesTo
+  goes [] st n state r = stays st n 0 [] state refl r at-end
+  goes (a ∷ []) st n state r = stays st n 0 (a ∷ []) state refl r at-word
   goes (a ∷ t ∷ cs) st n state r =
       go (choiceReply tb st a t) refl (λ e. goes cs (accepted tb st a t) (n + 1) (c .state e) (append r (c .step e)))
     where
@@ -83,23 +73,27 @@ module _ (tb : List ℕ) (table : Table tb) where
       new = accepted tb st a t
 
       go : (x : ℕ) → choiceReply tb st a t ≡ x
-          → ((e : choiceReply tb st a t ≡ 0) → Goes (append r (c .step e)) (n + 1) (runFrom tb new (n + 1)) cs (runFrom tb new (n + 1) cs))
-          → Goes r n (runFrom tb st n) (a ∷ t ∷ cs) (runFrom tb st n (a ∷ t ∷ cs))
+          → ((e : choiceReply tb st a t ≡ 0) → Goes (append r (c .step e)) (n + 1) new cs (runFrom tb new (n + 1) cs))
+          → Goes r n st (a ∷ t ∷ cs) (runFrom tb st n (a ∷ t ∷ cs))
       go zero e next =
           let x = next e in
-          subst (Goes r n (runFrom tb st n) (a ∷ t ∷ cs)) (sym (run-go tb st n a t cs e)) (record {
+          let twice : 2 * suc (x .steps) ≡ suc (suc (2 * x .steps)) = omega arith in
+          subst (Goes r n st (a ∷ t ∷ cs)) (sym (run-go tb st n a t cs e)) (record {
             steps = suc (x .steps);
             counted = x .counted ∙ omega arith;
-            stops = let twice : 2 * suc (x .steps) ≡ suc (suc (2 * x .steps)) = omega arith in rw twice (x .stops);
+            stops = rw twice (x .stops);
             state = x .state;
             behaviour = x .behaviour;
             stepped = x .stepped ∙ omega arith;
+            chosen = x .chosen
+                ∙ append-assoc (choicesOf r) (a ∷ decode tb new .t ∷ []) (take (2 * x .steps) cs)
+                ∙ ap (λ (u : ℕ). choicesOf r ++ (a ∷ u ∷ take (2 * x .steps) cs)) (c .time e)
+                ∙ ap (λ (i : ℕ). choicesOf r ++ take i (a ∷ t ∷ cs)) (sym twice);
             filtered = λ b low. x .filtered b low
-                ∙ grows tb new a b low (filter (published tb) r b) _ (ℕ-discrete a b)
-                ∙ ap (filter (published tb) r b ++_)
-                (sym (came (runFrom tb st n) (runFrom tb new (n + 1)) a t cs b (λ l. ap (λ (q : RunOutcome). q .state) (run-go tb st n a t l e)) (x .steps)));
+                ∙ grows tb new a b low (filter (published tb) r b) (comesTo b (stepsFrom tb new cs)) (ℕ-discrete a b)
+                ∙ ap (λ (l : List Step). filter (published tb) r b ++ comesTo b l) (sym (steps-go tb st a t cs e));
           })
-      go (suc x) e next = subst (Goes r n (runFrom tb st n) (a ∷ t ∷ cs)) (sym (run-stop tb st n a t cs x e)) (stays st n (suc x) (runFrom tb st n) (a ∷ t ∷ cs) state r (at-reason (rw e at (c .reason)) (λ z. omega arith)))
+      go (suc x) e next = subst (Goes r n st (a ∷ t ∷ cs)) (sym (run-stop tb st n a t cs x e)) (stays st n (suc x) (a ∷ t ∷ cs) state (steps-stop tb st a t cs x e) r (at-reason (rw e at (c .reason)) (λ z. omega arith)))
 
 pub run-is-models : RunIsModels
 unfolding runFrom
@@ -110,8 +104,9 @@ run-is-models tb st cs table state =
       state = x .state;
       behaviour = x .behaviour;
       counted = x .stepped ∙ zero-add _ ∙ sym count;
+      chosen = rw count (x .chosen);
       stops = rw count (x .stops);
       filtered = λ b h.
           let low : b < 16 = omega (arith, few tb (table .good)) in
-          x .filtered b low ∙ ap₂ (λ (s : Agent) (k : ℕ). s ∷ comesTo (runFrom tb st 0) cs b k) (state-low tb st b low) (sym count);
+          x .filtered b low ∙ ap (λ (s : Agent). s ∷ comesTo b (stepsFrom tb st cs)) (state-low tb st b low);
     }

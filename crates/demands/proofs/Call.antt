@@ -13,7 +13,7 @@ use Rattle.executive.specs.Calls.{tablePart, statePart, pastState, Outcome, ste
 use Rattle.executive.proofs.Ready.{Ready, answer, ready-reply, was-ready, stepped-by, part-is, past-is}
 use Rattle.demands.specs.Reasons.{Reply}
 use Rattle.demands.specs.Instance.{decode}
-use Rattle.demands.specs.Demand2.{Table, State, Choice, TableIsChecked, CallIsModels}
+use Rattle.demands.specs.Demand2.{Table, Fitting, Choice, TableIsChecked, CallIsModels}
 use Rattle.demands.proofs.Demand2.{choice-is-models}
 
 -- a table that `check` accepts
@@ -24,7 +24,7 @@ table-is-checked tb = (
 )
 
 module _ (tb st : List ℕ) where
-  pub ready : Table (tablePart tb) → State (tablePart tb) (statePart st) → Ready tb st
+  pub ready : Table (tablePart tb) → Fitting (tablePart tb) (statePart st) → Ready tb st
   ready table state = record {
     table = let n = length-take 2129 tb in let l = table .long in omega arith;
     state = let n = length-take 1105 st in let l = state .long in omega arith;
@@ -35,7 +35,7 @@ module _ (tb st : List ℕ) where
   pub ready-table : Ready tb st → Table (tablePart tb)
   ready-table r = record { long = let l = r .table in simp length-take (omega arith); good = r .good }
 
-  pub ready-state : Ready tb st → State (tablePart tb) (statePart st)
+  pub ready-state : Ready tb st → Fitting (tablePart tb) (statePart st)
   ready-state r = record { long = let l = r .state in simp length-take (omega arith); fit = r .fit }
 
 module _ (tb st : List ℕ) (a t : ℕ) where

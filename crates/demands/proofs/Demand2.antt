@@ -16,7 +16,7 @@ use Rattle.executive.proofs.Start.{start-length, start-clock, start-low, start-
 use Rattle.executive.proofs.Fitting.{fits-says}
 use Rattle.executive.proofs.Fits.{accepted-fits, start-fits}
 use Rattle.choices.proofs.Choice.{allowed, allowed-reply}
-use Rattle.demands.specs.Reasons.{Allowed}
+use Rattle.demands.specs.Reasons.{ModelAllows}
 use Rattle.demands.specs.Instance.{published, decode, stateOf, startOf}
 use Rattle.demands.specs.Demand2.{ChoiceIsModels, WordsAreModels, StartIsModels}
 use Rattle.demands.proofs.Decode.{state-low, state-high, sent-unmarked, same-words}
@@ -31,7 +31,7 @@ choice-is-models tb st table state a t =
     let low-agent : choiceReply tb st a t ≡ 0 → a < 16 = λ e. low tb st good (accepts e .agent) in
     let step : choiceReply tb st a t ≡ 0 → executes (published tb) a (decode tb st) (decode tb (accepted tb st a t)) =
     λ e. does tb st good (state .long) f a t (accepts e) in
-    let reply : Allowed (decode tb st) a t → choiceReply tb st a t ≡ 0 = λ x. allowed-reply tb st a t (allowed-accepts tb st good a t x) in
+    let reply : ModelAllows (decode tb st) a t → choiceReply tb st a t ≡ 0 = λ x. allowed-reply tb st a t (allowed-accepts tb st good a t x) in
     let time : choiceReply tb st a t ≡ 0 → decode tb (accepted tb st a t) .t ≡ t = λ e. accepted-clock tb st a t (state .long) (low-agent e) in
     record {
       exact = (λ e. (decode tb (accepted tb st a t), time e, step e), reply);

@@ -1,12 +1,12 @@
 -- Demand 3, proved: a corollary of the published model's determinacy, since runs are its behaviours.
-use mathlib.Core.Path.{_≡_, subst₂}
+use mathlib.Core.Path.{_≡_, sym, subst₂, _∙_}
 use mathlib.Core.Bool.{true}
 use mathlib.Core.List.{List}
 use Prim.Native.Nat.{ℕ, _<_}
 use native.Mathlib.Omega.{arith}
 use lib.Dec.{leb}
 use borrow.Author.Tests.{le-leb}
-use Rattle.pharos.specs.Behaviours.{determinacy, same-ends}
+use Rattle.pharos.specs.Behaviours.{determinacy, same-ends, same-courses}
 use Rattle.tables.specs.Layout.{agents, rows}
 use Rattle.choices.specs.State.{pos}
 use Rattle.executive.specs.Run.{runFrom}
@@ -14,7 +14,7 @@ use Rattle.tables.proofs.Good.{few}
 use Rattle.executive.proofs.Fitting.{fits-says}
 use Rattle.demands.specs.Instance.{published, stateOf}
 use Rattle.demands.specs.Demand2.{Table}
-use Rattle.demands.specs.Demand3.{OneBegins, DeterministicFrom, AllEnded, SameEndsFrom}
+use Rattle.demands.specs.Demand3.{OneBegins, DeterministicFrom, AllEnded, SameEndsFrom, SameCourses}
 use Rattle.demands.proofs.Assumed.{assumed}
 use Rattle.demands.proofs.Decode.{state-low, same-past-clock}
 use Rattle.demands.proofs.Behaves.{run-is-models}
@@ -39,3 +39,13 @@ same-ends-from tb st cs ds table state end end′ =
     let y = run-is-models tb st ds table state in
     let (states, messages) = same-ends (published tb) (assumed tb (table .good)) (x .behaviour) (y .behaviour) (all-ended tb out table end) (all-ended tb out′ table end′) in
     same-past-clock tb out out′ (fits-says tb out (x .state .fit)) (fits-says tb out′ (y .state .fit)) (x .state .long) (y .state .long) states messages
+
+pub same-courses-from : SameCourses
+same-courses-from tb st cs ds table state end end′ b h =
+    let out = runFrom tb st 0 cs .state in
+    let out′ = runFrom tb st 0 ds .state in
+    let x = run-is-models tb st cs table state in
+    let y = run-is-models tb st ds table state in
+    sym (x .filtered b h)
+    ∙ same-courses (published tb) (assumed tb (table .good)) (x .behaviour) (y .behaviour) (all-ended tb out table end) (all-ended tb out′ table end′) b
+    ∙ y .filtered b h

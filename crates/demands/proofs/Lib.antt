@@ -5,6 +5,7 @@ pub mod Received
 pub mod Step
 pub mod Reasons
 pub mod Demand2
+pub mod Made
 pub mod Behaves
 pub mod Call
 pub mod Demand3

@@ -24,7 +24,7 @@ use Rattle.choices.specs.Step.{accepted, Allowed as Accepts}
 use Rattle.tables.proofs.Good.{few, few-rows}
 use Rattle.executive.proofs.Fitting.{Fits}
 use Rattle.choices.proofs.After.{next, accepted-clock, accepted-self, accepted-agent-other, sent-own-mark, sent-own-value, mark-away, value-away, mark-unsent, value-unsent}
-use Rattle.demands.specs.Reasons.{Allowed, allowed}
+use Rattle.demands.specs.Reasons.{ModelAllows, allowed}
 use Rattle.demands.specs.Instance.{published, dated, stateOf, sentOf, decode}
 use Rattle.demands.proofs.Rows.{valueOf, effect, posted, after-other}
 use Rattle.demands.proofs.Decode.{state-low, state-high, sent-some, sent-same}
@@ -47,10 +47,10 @@ module _ (tb st : List ℕ) (good : goodTable tb ≡ true) where
       fits = λ b h unended. rw (state-low tb st b (low h)) (c .late b h (leb-false _ _ (rw (state-low tb st b (low h)) at unended)));
     }
 
-    pub accepts-allowed : Accepts tb st a t → Allowed (decode tb st) a t
+    pub accepts-allowed : Accepts tb st a t → ModelAllows (decode tb st) a t
     accepts-allowed c = allowed (c .agent) (live c) (good-time c)
 
-    pub allowed-accepts : Allowed (decode tb st) a t → Accepts tb st a t
+    pub allowed-accepts : ModelAllows (decode tb st) a t → Accepts tb st a t
     allowed-accepts (post, at, e) =
         let in-words = state-low tb st a (low (e .real)) in
         let g = subst (GoodNextTime (published tb) (decode tb st) a) at (e .good) in

@@ -13,9 +13,8 @@ use Rattle.choices.specs.Messages.{best, lookAgents, lookRows, look, visible, b
 use Rattle.choices.specs.Effect.{after, receive}
 use Rattle.choices.specs.Fit.{inTime, unfinished}
 use Rattle.choices.specs.Step.{choiceReply, stuck, canGo, accepted, withAgent, withSent}
-use Rattle.executive.specs.Run.{runFrom}
-use Rattle.executive.specs.Calls.{runInto, runRefusal}
-use Rattle.demands.specs.Runs.{comesTo, passed}
+use Rattle.executive.specs.Calls.{runRefusal}
+use Rattle.demands.specs.Steps.{stepsFrom, comesTo, passedInRun}
 
 -- SEND 0, 7 in the window 1 to 3 with 5 in register 0; RECV 1, 7 in the window 4 to 8
 table : List ℕ
@@ -32,7 +31,7 @@ sender p = at p (5 ∷ 0 ∷ 0 ∷ 0 ∷ [])
 
 -- what an agent passes through in a run of the table, made in lent words that are all 9
 through : List ℕ → ℕ → List Agent
-through cs b = passed (runInto table (replicate 1106 9)) cs b
+through cs b = passedInRun table (replicate 1106 9) cs b
 
 record Example : Type 0 where
   sends : through (0 ∷ 3 ∷ 1 ∷ 4 ∷ []) 0 ≡ sender 0 ∷ sender 1 ∷ []
@@ -41,5 +40,5 @@ record Example : Type 0 where
   odd : through (0 ∷ 3 ∷ 1 ∷ []) 0 ≡ sender 0 ∷ []
 
 example : Example
-unfolding table through comesTo first every runInto runRefusal runFrom startWords choiceReply stuck canGo inTime unfinished accepted withAgent withSent after receive best lookAgents lookRows look visible beats goodTable goodAgent goodRows rowReplyAt rowReply wellFormed fieldsFit namesOf within earlyBefore lateBefore rowOf zeroFrom allZero allBelow
+unfolding table through stepsFrom comesTo first every runRefusal startWords choiceReply stuck canGo inTime unfinished accepted withAgent withSent after receive best lookAgents lookRows look visible beats goodTable goodAgent goodRows rowReplyAt rowReply wellFormed fieldsFit namesOf within earlyBefore lateBefore rowOf zeroFrom allZero allBelow
 example = record { sends = refl; receives = refl; cut = refl; odd = refl }

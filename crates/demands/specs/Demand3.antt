@@ -2,31 +2,29 @@
 use mathlib.Core.Path.{_≡_}
 use mathlib.Core.List.{List}
 use mathlib.Core.Logic.{_⊎_}
-use Prim.Native.Nat.{ℕ, _≤_, _<_}
-use lib.ListN.{length, drop}
+use Prim.Native.Nat.{ℕ, _<_}
+use lib.ListN.{drop}
 use Rattle.pharos.specs.Tail.{Prefix}
 use Rattle.tables.specs.Layout.{agents, rows}
 use Rattle.choices.specs.declared.Agent.{Agent}
-use Rattle.choices.specs.State.{pos, stateWords}
+use Rattle.choices.specs.State.{pos}
 use Rattle.executive.specs.Run.{runFrom}
-use Rattle.executive.specs.Calls.{tablePart, statePart, runRefusal, runInto}
-use Rattle.demands.specs.Demand2.{Table, State}
-use Rattle.demands.specs.Runs.{passed}
+use Rattle.executive.specs.Calls.{statePart, runRefusal, runInto}
+use Rattle.demands.specs.Demand2.{Table, Fitting}
+use Rattle.demands.specs.Steps.{passed, passedInRun}
 
 -- one of two lists of states begins the other
 abbrev pub OneBegins : List Agent → List Agent → Type 0
 OneBegins h k = Prefix h k ⊎ Prefix k h
 
--- For every accepted table and any two lists of choices, the states that an agent passes through in one run begin those in the other,
--- whatever lent words the runs are made in. A list of an odd number of words, and one refused at its first choice, has no accepted step.
+-- For one table and any two lists of choices, the states that an agent passes through in one run begin those in the other, whatever lent words the runs are made in.
+-- A run that is refused before it begins has no accepted step, and neither has one that is refused at its first choice.
 abbrev pub Deterministic : Type 0
-Deterministic = (tb st st′ cs ds : List ℕ) → Table (tablePart tb) → stateWords ≤ length st → stateWords ≤ length st′
-    → (b : ℕ) → b < agents tb → OneBegins (passed (runInto tb st) cs b) (passed (runInto tb st′) ds b)
+Deterministic = (tb st st′ cs ds : List ℕ) (b : ℕ) → b < agents tb → OneBegins (passedInRun tb st cs b) (passedInRun tb st′ ds b)
 
 -- The same from any state that fits its table.
 abbrev pub DeterministicFrom : Type 0
-DeterministicFrom = (tb st cs ds : List ℕ) → Table tb → State tb st
-    → (b : ℕ) → b < agents tb → OneBegins (passed (runFrom tb st 0) cs b) (passed (runFrom tb st 0) ds b)
+DeterministicFrom = (tb st cs ds : List ℕ) → Table tb → Fitting tb st → (b : ℕ) → b < agents tb → OneBegins (passed tb st cs b) (passed tb st ds b)
 
 -- all agents have come to their end
 abbrev pub AllEnded : (tb st : List ℕ) → Type 0
@@ -40,6 +38,12 @@ SameEnds = (tb st st′ cs ds : List ℕ) → runRefusal tb st cs ≡ 0 → runR
     → drop 1 (statePart (runInto tb st cs .state)) ≡ drop 1 (statePart (runInto tb st′ ds .state))
 
 abbrev pub SameEndsFrom : Type 0
-SameEndsFrom = (tb st cs ds : List ℕ) → Table tb → State tb st
+SameEndsFrom = (tb st cs ds : List ℕ) → Table tb → Fitting tb st
     → AllEnded tb (runFrom tb st 0 cs .state) → AllEnded tb (runFrom tb st 0 ds .state)
     → drop 1 (runFrom tb st 0 cs .state) ≡ drop 1 (runFrom tb st 0 ds .state)
+
+-- And then every agent has passed through the same states in both.
+abbrev pub SameCourses : Type 0
+SameCourses = (tb st cs ds : List ℕ) → Table tb → Fitting tb st
+    → AllEnded tb (runFrom tb st 0 cs .state) → AllEnded tb (runFrom tb st 0 ds .state)
+    → (b : ℕ) → b < agents tb → passed tb st cs b ≡ passed tb st ds b

@@ -40,8 +40,8 @@ module _ {T : Types} where
   open Types T using (agents, ended)
 
   -- The model allows agent a a step at time t.
-  abbrev pub Allowed : SystemState T → (a t : ℕ) → Type 0
-  Allowed g a t = (post : SystemState T) × (post .t ≡ t) × executes T a g post
+  abbrev pub ModelAllows : SystemState T → (a t : ℕ) → Type 0
+  ModelAllows g a t = (post : SystemState T) × (post .t ≡ t) × executes T a g post
 
   -- The time is above the late of an unfinished agent's instruction.
   abbrev pub Overdue : SystemState T → ℕ → Type 0
@@ -54,7 +54,7 @@ module _ {T : Types} where
       ∷ ((ended a (g .st a) ≡ true) ⇒ 11)  -- the agent has ended
       ∷ ((t < g .t) ⇒ 12)  -- time below the clock
       ∷ ((t < instrOf T a (g .st a) .early) ⇒ 13)  -- time below the row's early
-      ∷ (((b u : ℕ) → Allowed g b u → ⊥) ⇒ 14)  -- stuck: no agent and time at all would be accepted, though a is unfinished
+      ∷ (((b u : ℕ) → ModelAllows g b u → ⊥) ⇒ 14)  -- stuck: no agent and time at all would be accepted, though a is unfinished
       ∷ (Overdue g t ⇒ 15)  -- time above some unfinished agent's late
       ∷ []
 
@@ -66,7 +66,7 @@ module _ {T : Types} where
   one-reply {g} {a} {t} p q = first-once (reasons g a t) p q
 
   -- A good next time of an unfinished agent is allowed: a receive always gets something, or nothing.
-  pub allowed : {g : SystemState T} {a t : ℕ} → a < agents → ended a (g .st a) ≡ false → GoodNextTime T g a t → Allowed g a t
+  pub allowed : {g : SystemState T} {a t : ℕ} → a < agents → ended a (g .st a) ≡ false → GoodNextTime T g a t → ModelAllows g a t
   allowed {g} {a} {t} real live good =
       let (got, received) = receives T (g .msgs) (instrOf T a (g .st a)) in
       let after = exec T a (g .st a) (g .msgs) got in (
@@ -76,10 +76,10 @@ module _ {T : Types} where
       )
 
   -- Reply 0: there is no reason against a choice if and only if the model allows it.
-  pub zero-allowed : (g : SystemState T) (a t : ℕ) → Reply g a t 0 ↔ Allowed g a t
+  pub zero-allowed : (g : SystemState T) (a t : ℕ) → Reply g a t 0 ↔ ModelAllows g a t
   zero-allowed g a t = (to, from)
     where
-      to : Reply g a t 0 → Allowed g a t
+      to : Reply g a t 0 → ModelAllows g a t
       to r =
           let (real, r) = past (omega arith) r in
           let (live, r) = past (omega arith) r in
@@ -89,7 +89,7 @@ module _ {T : Types} where
           let (due, _) = past (omega arith) r in
           allowed (omega arith) (unended _ live) (record { after = omega arith; begun = omega arith; fits = λ b l n. by-cases (decLt (instrOf T b (g .st b) .late) t) (λ over. absurd (due (b, l, n, omega arith))) (λ over. omega arith) })
 
-      from : Allowed g a t → Reply g a t 0
+      from : ModelAllows g a t → Reply g a t 0
       from r =
           let (post, at, e) = r in
           let good = e .good in
