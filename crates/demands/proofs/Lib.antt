@@ -10,3 +10,4 @@ pub mod Behaves
 pub mod Call
 pub mod Demand3
 pub mod Lent
+pub mod Parsed

@@ -6,3 +6,4 @@ pub mod Steps
 pub mod Runs
 pub mod Cases
 pub mod Demand3
+pub mod Traces

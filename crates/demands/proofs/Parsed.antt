@@ -1,0 +1,266 @@
+-- Lines that were written are read back: digits to their number, step lines to their steps. Assumes nothing.
+use mathlib.Core.Path.{_≡_, refl, sym, ap, _∙_}
+use mathlib.Core.Logic.{by-cases}
+use mathlib.Core.Bool.{Bool, true, false, _&&_, cond, and-assoc, and-true}
+use mathlib.Core.List.{List, [], _∷_, _++_, append-assoc, append-nil}
+use Prim.Native.Nat.{ℕ, zero, suc, _+_, _*_, _/_, _%_, _^_, _≤_, _<_}
+use native.Mathlib.Nat.{pow-succ'}
+use native.Mathlib.Decide.{decLt}
+use native.Mathlib.Omega.{arith}
+use lib.Dec.{ltb, leb, eqb, lit<}
+use lib.ListN.{length, take, drop, getD, length-append}
+use lib.Seq.{take-at, drop-at, drop-drop, take-append-le, drop-append-le}
+use borrow.Author.Tests.{lt-ltb, le-ltb, le-leb, lt-leb}
+use Rattle.tables.specs.Lines.{newline, same, lines, hexDigit, allHex, number, field, digitsLine}
+use Rattle.tables.proofs.Tests.{and-both, and-right}
+use Rattle.tables.proofs.Passed.{and-1, and-2}
+use Rattle.tables.proofs.Newlines.{lines-digits}
+use Rattle.choices.specs.declared.Agent.{Agent}
+use Rattle.traces.specs.Output.{hexChar, hexDigits, hexWords, stepLine, lastLine}
+use Rattle.traces.proofs.Writes.{hexDigits-length, hexWords-length}
+use Rattle.traces.proofs.Steps.{stepLine-length, lastLine-length}
+use Rattle.demands.specs.Steps.{Step, step}
+use Rattle.demands.specs.Traces.{isStepLine, stepIn, stepsShown, stepLines}
+
+-- ---- digits
+
+hex-back : (d : ℕ) → d < 16 → hexDigit (hexChar d) ≡ d
+unfolding hexDigit hexChar
+hex-back d h = by-cases (decLt d 10)
+    (λ l. rw (lt-ltb d 10 l, le-leb 48 (48 + d) (omega arith), le-leb (48 + d) 57 (omega arith)) (omega arith))
+    (λ n. rw (le-ltb d 10 (omega arith), le-leb 48 (55 + d) (omega arith), lt-leb (55 + d) 57 (omega arith), le-leb 65 (55 + d) (omega arith), le-leb (55 + d) 70 (omega arith)) (omega arith))
+
+number-append : (m : ℕ) (xs ys : List ℕ) → number m (xs ++ ys) ≡ number (number m xs) ys
+unfolding number
+number-append m [] ys = refl
+number-append m (x ∷ xs) ys = number-append (16 * m + hexDigit x) xs ys
+
+hex-append : (xs ys : List ℕ) → allHex xs ≡ true → allHex ys ≡ true → allHex (xs ++ ys) ≡ true
+unfolding allHex
+hex-append [] ys h k = k
+hex-append (x ∷ xs) ys h k =
+    and-both (ltb (hexDigit x) 16) (allHex (xs ++ ys)) (and-1 (ltb (hexDigit x) 16) (allHex xs) h) (hex-append xs ys (and-2 (ltb (hexDigit x) 16) (allHex xs) h) k)
+
+pub digits-number : (k v : ℕ) → v < 16 ^ k → number 0 (hexDigits k v) ≡ v
+unfolding number hexDigits
+digits-number zero v h = omega arith
+digits-number (suc k) v h =
+    let p = pow-succ' 16 k in
+    let e = digits-number k (v / 16) (omega arith) in
+    let d = hex-back (v % 16) (omega arith) in
+    number-append 0 (hexDigits k (v / 16)) (hexChar (v % 16) ∷ []) ∙ omega arith
+
+pub digits-hex : (k v : ℕ) → allHex (hexDigits k v) ≡ true
+unfolding allHex hexDigits
+digits-hex zero v = refl
+digits-hex (suc k) v =
+    let d = hex-back (v % 16) (omega arith) in
+    hex-append (hexDigits k (v / 16)) (hexChar (v % 16) ∷ []) (digits-hex k (v / 16)) (rw (lt-ltb (hexDigit (hexChar (v % 16))) 16 (omega arith)))
+
+words-hex : (ws : List ℕ) → allHex (hexWords ws) ≡ true
+unfolding allHex hexWords
+words-hex [] = refl
+words-hex (w ∷ ws) = hex-append (hexDigits 8 w) (hexWords ws) (digits-hex 8 w) (words-hex ws)
+
+-- ---- fields of a line that is put together
+
+module _ (xs ys : List ℕ) where
+  field-here : (k : ℕ) → length xs ≡ k → field (xs ++ ys) 0 k ≡ number 0 xs
+  unfolding field
+  field-here k e = ap (number 0) (take-at xs ys k e)
+
+  field-past : (n i k : ℕ) → length xs ≡ n → field (xs ++ ys) (n + i) k ≡ field ys i k
+  unfolding field
+  field-past n i k e = ap (λ (l : List ℕ). number 0 (take k l)) (sym (drop-drop i n (xs ++ ys)) ∙ ap (drop i) (drop-at xs ys n e))
+
+-- digits at the front, and behind them
+digits-field : (k v : ℕ) (ys : List ℕ) → v < 16 ^ k → field (hexDigits k v ++ ys) 0 k ≡ v
+digits-field k v ys h = field-here (hexDigits k v) ys k (hexDigits-length k v) ∙ digits-number k v h
+
+digits-past : (n v : ℕ) (ys : List ℕ) (i k : ℕ) → field (hexDigits n v ++ ys) (n + i) k ≡ field ys i k
+digits-past n v ys i k = field-past (hexDigits n v) ys n i k (hexDigits-length n v)
+
+-- ---- a line of digits
+
+made-line : (n : ℕ) (xs : List ℕ) → length xs ≡ n → allHex xs ≡ true → digitsLine n (xs ++ (newline ∷ [])) ≡ true
+unfolding digitsLine same
+made-line n xs e h = rw (take-at xs (newline ∷ []) n e, drop-at xs (newline ∷ []) n e, h)
+
+-- it is the first of a text that begins with it
+pub line-first : (n : ℕ) (l r : List ℕ) → length l ≡ n + 1 → digitsLine n l ≡ true → lines (l ++ r) ≡ l ∷ lines r
+line-first n l r e h =
+    let t = take-at l r (n + 1) e in
+    let d = drop-at l r (n + 1) e in
+    lines-digits n (l ++ r) (rw t h) ∙ rw (t, d)
+
+-- ---- the line of a step
+
+-- a step that a line can tell of
+pub record Plain (s : Step) : Type 0 where
+  pub agent : s .agent < 16 ^ 2
+  pub time : s .time < 16 ^ 8
+  pub position : s .left .pos < 16 ^ 2
+  pub four : length (s .left .regs) ≡ 4
+  pub small : (i : ℕ) → getD (s .left .regs) i 0 < 16 ^ 8
+
+four-of : (l : List ℕ) → length l ≡ 4 → l ≡ getD l 0 0 ∷ getD l 1 0 ∷ getD l 2 0 ∷ getD l 3 0 ∷ []
+four-of [] e = absurd (omega arith)
+four-of (a ∷ []) e = absurd (omega arith)
+four-of (a ∷ b ∷ []) e = absurd (omega arith)
+four-of (a ∷ b ∷ c ∷ []) e = absurd (omega arith)
+four-of (a ∷ b ∷ c ∷ d ∷ []) e = refl
+four-of (a ∷ b ∷ c ∷ d ∷ f ∷ l) e = absurd (omega arith)
+
+module _ (a t p : ℕ) (ws : List ℕ) where
+  abbrev body : List ℕ
+  body = hexDigits 2 0x03 ++ (hexDigits 2 a ++ (hexDigits 2 p ++ (hexDigits 8 t ++ hexWords ws)))
+
+  abbrev line : List ℕ
+  line = stepLine a t (record { pos = p; regs = ws })
+
+  with-newline : line ≡ body ++ (newline ∷ [])
+  unfolding stepLine
+  with-newline = simp append-assoc
+
+  body-length : length ws ≡ 4 → length body ≡ 46
+  body-length four = simp (length-append, hexDigits-length, hexWords-length, four)
+
+  body-hex : allHex body ≡ true
+  body-hex =
+      hex-append (hexDigits 2 0x03) _ (digits-hex 2 0x03)
+      (hex-append (hexDigits 2 a) _ (digits-hex 2 a)
+      (hex-append (hexDigits 2 p) _ (digits-hex 2 p)
+      (hex-append (hexDigits 8 t) _ (digits-hex 8 t) (words-hex ws))))
+
+  line-digits : length ws ≡ 4 → digitsLine 46 line ≡ true
+  line-digits four = ap (digitsLine 46) with-newline ∙ made-line 46 body (body-length four) body-hex
+
+  line-kind : field line 0 2 ≡ 0x03
+  unfolding stepLine
+  line-kind = digits-field 2 0x03 _ (lit< tt)
+
+  line-is-step : length ws ≡ 4 → isStepLine line ≡ true
+  unfolding isStepLine
+  line-is-step four = rw (line-digits four, line-kind)
+
+-- its fields, where it is flat
+module _ (a t p w x y z : ℕ) where
+  abbrev last-three : List ℕ
+  last-three = hexDigits 8 x ++ (hexDigits 8 y ++ (hexDigits 8 z ++ (newline ∷ [])))
+
+  abbrev registers : List ℕ
+  registers = hexDigits 8 w ++ last-three
+
+  abbrev from-time : List ℕ
+  from-time = hexDigits 8 t ++ registers
+
+  abbrev from-position : List ℕ
+  from-position = hexDigits 2 p ++ from-time
+
+  abbrev from-agent : List ℕ
+  from-agent = hexDigits 2 a ++ from-position
+
+  abbrev flat : List ℕ
+  flat = hexDigits 2 0x03 ++ from-agent
+
+  flat-is : line a t p (w ∷ x ∷ y ∷ z ∷ []) ≡ flat
+  unfolding stepLine hexWords
+  flat-is = simp append-assoc
+
+  agent-at : a < 16 ^ 2 → field flat 2 2 ≡ a
+  agent-at h = digits-past 2 0x03 from-agent 0 2 ∙ digits-field 2 a from-position h
+
+  past-agent : (i k : ℕ) → field flat (4 + i) k ≡ field from-position i k
+  past-agent i k =
+      let e : 4 + i ≡ 2 + (2 + i) = omega arith in
+      ap (λ (j : ℕ). field flat j k) e ∙ digits-past 2 0x03 from-agent (2 + i) k ∙ digits-past 2 a from-position i k
+
+  past-time : (i k : ℕ) → field flat (14 + i) k ≡ field registers i k
+  past-time i k =
+      let e : 14 + i ≡ 4 + (2 + (8 + i)) = omega arith in
+      ap (λ (j : ℕ). field flat j k) e ∙ past-agent (2 + (8 + i)) k ∙ digits-past 2 p from-time (8 + i) k ∙ digits-past 8 t registers i k
+
+  position-at : p < 16 ^ 2 → field flat 4 2 ≡ p
+  position-at h = past-agent 0 2 ∙ digits-field 2 p from-time h
+
+  time-at : t < 16 ^ 8 → field flat 6 8 ≡ t
+  time-at h = past-agent 2 8 ∙ digits-past 2 p from-time 0 8 ∙ digits-field 8 t registers h
+
+  first-at : w < 16 ^ 8 → field flat 14 8 ≡ w
+  first-at h = past-time 0 8 ∙ digits-field 8 w last-three h
+
+  second-at : x < 16 ^ 8 → field flat 22 8 ≡ x
+  second-at h = past-time 8 8 ∙ digits-past 8 w last-three 0 8 ∙ digits-field 8 x _ h
+
+  third-at : y < 16 ^ 8 → field flat 30 8 ≡ y
+  third-at h = past-time 16 8 ∙ digits-past 8 w last-three 8 8 ∙ digits-past 8 x _ 0 8 ∙ digits-field 8 y _ h
+
+  fourth-at : z < 16 ^ 8 → field flat 38 8 ≡ z
+  fourth-at h = past-time 24 8 ∙ digits-past 8 w last-three 16 8 ∙ digits-past 8 x _ 8 8 ∙ digits-past 8 y _ 0 8 ∙ digits-field 8 z _ h
+
+  flat-step : a < 16 ^ 2 → t < 16 ^ 8 → p < 16 ^ 2 → w < 16 ^ 8 → x < 16 ^ 8 → y < 16 ^ 8 → z < 16 ^ 8
+      → stepIn flat ≡ step a t (record { pos = p; regs = w ∷ x ∷ y ∷ z ∷ [] })
+  unfolding stepIn
+  flat-step ha ht hp hw hx hy hz = λ i. step (agent-at ha i) (time-at ht i) (record { pos = position-at hp i; regs = first-at hw i ∷ second-at hx i ∷ third-at hy i ∷ fourth-at hz i ∷ [] })
+
+-- the step in the line of a step
+line-shows : (s : Step) → Plain s → stepIn (stepLine (s .agent) (s .time) (s .left)) ≡ s
+line-shows s h =
+    let g = s .left .regs in
+    let four = four-of g (h .four) in
+    ap (λ (l : List ℕ). stepIn (stepLine (s .agent) (s .time) (record { pos = s .left .pos; regs = l }))) four
+    ∙ ap stepIn (flat-is (s .agent) (s .time) (s .left .pos) (getD g 0 0) (getD g 1 0) (getD g 2 0) (getD g 3 0))
+    ∙ flat-step (s .agent) (s .time) (s .left .pos) (getD g 0 0) (getD g 1 0) (getD g 2 0) (getD g 3 0) (h .agent) (h .time) (h .position) (h .small 0) (h .small 1) (h .small 2) (h .small 3)
+    ∙ ap (λ (l : List ℕ). step (s .agent) (s .time) (record { pos = s .left .pos; regs = l })) (sym four)
+
+-- ---- the last line
+
+module _ (r n : ℕ) where
+  abbrev told : List ℕ
+  told = hexDigits 2 0xFE ++ (hexDigits 2 r ++ hexDigits 4 n)
+
+  told-line : lastLine r n ≡ told ++ (newline ∷ [])
+  unfolding lastLine
+  told-line = simp append-assoc
+
+  told-length : length told ≡ 8
+  told-length = simp (length-append, hexDigits-length)
+
+  told-hex : allHex told ≡ true
+  told-hex = hex-append (hexDigits 2 0xFE) _ (digits-hex 2 0xFE) (hex-append (hexDigits 2 r) (hexDigits 4 n) (digits-hex 2 r) (digits-hex 4 n))
+
+  last-alone : lines (lastLine r n) ≡ lastLine r n ∷ []
+  unfolding lines
+  last-alone =
+      ap lines (sym (append-nil (lastLine r n)))
+      ∙ line-first 8 (lastLine r n) [] (lastLine-length r n) (ap (digitsLine 8) told-line ∙ made-line 8 told told-length told-hex)
+
+  last-kind : field (lastLine r n) 0 2 ≡ 0xFE
+  unfolding lastLine
+  last-kind = digits-field 2 0xFE _ (lit< tt)
+
+  last-no-step : isStepLine (lastLine r n) ≡ false
+  unfolding isStepLine
+  last-no-step = rw last-kind (and-right (digitsLine 46 (lastLine r n)) false refl)
+
+  pub last-shows : stepsShown (lines (lastLine r n)) ≡ []
+  unfolding stepsShown
+  last-shows = rw (last-alone, last-no-step)
+
+-- ---- an output
+
+abbrev pub AllPlain : List Step → Type 0
+AllPlain [] = Unit
+AllPlain (s ∷ ss) = Plain s × AllPlain ss
+
+-- the steps that are written are the steps that are shown
+pub shown-back : (ss : List Step) (r n : ℕ) → AllPlain ss → stepsShown (lines (stepLines ss ++ lastLine r n)) ≡ ss
+unfolding stepLines stepsShown
+shown-back [] r n plain = last-shows r n
+shown-back (s ∷ ss) r n (h, plain) =
+    let l = stepLine (s .agent) (s .time) (s .left) in
+    let rest = stepLines ss ++ lastLine r n in
+    let first : lines ((l ++ stepLines ss) ++ lastLine r n) ≡ l ∷ lines rest =
+    ap lines (append-assoc l (stepLines ss) (lastLine r n))
+    ∙ line-first 46 l rest (stepLine-length (s .agent) (s .time) (s .left) (h .four)) (line-digits (s .agent) (s .time) (s .left .pos) (s .left .regs) (h .four)) in
+    rw (first, line-is-step (s .agent) (s .time) (s .left .pos) (s .left .regs) (h .four), line-shows s h, shown-back ss r n plain)

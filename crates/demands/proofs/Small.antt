@@ -1,0 +1,104 @@
+-- Words of 32 bits stay words of 32 bits: of a table that was read, and of every state that its steps lead to. Assumes nothing.
+use mathlib.Core.Path.{_≡_, refl, sym, ap, subst, _∙_}
+use mathlib.Core.Logic.{_≢_, by-cases}
+use mathlib.Core.Bool.{Bool, true, false, cond}
+use mathlib.Core.List.{List, [], _∷_, _++_}
+use Prim.Native.Nat.{ℕ, zero, suc, _+_, _-_, _%_, _^_, _≤_, _<_}
+use native.Mathlib.Decide.{decLt, ℕ-discrete}
+use native.Mathlib.Omega.{arith}
+use lib.Dec.{eqb, lit<}
+use lib.ListN.{length, getD, set, take, drop, replicate}
+use lib.Seq.{sets, set-out, getD-set-same, getD-set-other, getD-take, getD-drop, take-nil}
+use lib.Count.{onesIn, trailingZeros}
+use Rattle.tables.specs.declared.Row.{Row}
+use Rattle.tables.specs.Layout.{agents, row, rowPlace}
+use Rattle.choices.specs.declared.Agent.{Agent}
+use Rattle.choices.specs.declared.Best.{Best}
+use Rattle.choices.specs.declared.Best.the-variants.{Nothing, Message}
+use Rattle.choices.specs.State.{pool, agentAt, startWords, regPlace, valuePlace}
+use Rattle.choices.specs.Messages.{best}
+use Rattle.choices.specs.Effect.{after, receive, put, goTo}
+use Rattle.choices.specs.Step.{accepted, withAgent, withSent}
+use Rattle.executive.specs.Laws.{Taken}
+use Rattle.executive.proofs.Taken.{best-taken}
+
+-- a word of 32 bits
+abbrev pub Word : ℕ → Type 0
+Word v = v < 2 ^ 32
+
+pub record Small (ws : List ℕ) : Type 0 where
+  pub word : (i : ℕ) → Word (getD ws i 0)
+
+pub small-nil : Small []
+small-nil = record { word = λ i. lit< tt }
+
+pub small-cons : {x : ℕ} {xs : List ℕ} → Word x → Small xs → Small (x ∷ xs)
+small-cons {x} {xs} h s = record { word = at }
+  where
+    at : (i : ℕ) → Word (getD (x ∷ xs) i 0)
+    at zero = h
+    at (suc i) = s .word i
+
+pub small-tail : {x : ℕ} {xs : List ℕ} → Small (x ∷ xs) → Small xs
+small-tail s = record { word = λ i. s .word (suc i) }
+
+pub small-append : {xs ys : List ℕ} → Small xs → Small ys → Small (xs ++ ys)
+small-append {[]} s t = t
+small-append {x ∷ xs} s t = small-cons (s .word 0) (small-append (small-tail s) t)
+
+pub small-zeros : (n : ℕ) → Small (replicate n 0)
+small-zeros zero = small-nil
+small-zeros (suc n) = small-cons (lit< tt) (small-zeros n)
+
+pub small-drop : (n : ℕ) {l : List ℕ} → Small l → Small (drop n l)
+small-drop n {l} s = record { word = λ i. rw (getD-drop n l i 0) (s .word (n + i)) }
+
+pub small-take : (n : ℕ) {l : List ℕ} → Small l → Small (take n l)
+small-take zero s = small-nil
+small-take (suc n) {[]} s = small-nil
+small-take (suc n) {x ∷ l} s = small-cons (s .word 0) (small-take n (small-tail s))
+
+pub small-set : (l : List ℕ) (i v : ℕ) → Small l → Word v → Small (set l i v)
+small-set l i v s h = record { word = λ j. at j (ℕ-discrete j i) (decLt i (length l)) }
+  where
+    at : (j : ℕ) → Dec (j ≡ i) → Dec (i < length l) → Word (getD (set l i v) j 0)
+    at j (no n) d = rw (getD-set-other l i j v 0 n) (s .word j)
+    at j (yes e) (yes l′) = rw (e, getD-set-same l i v 0 l′) h
+    at j (yes e) (no n) = rw (set-out l i v (omega arith)) (s .word j)
+
+pub small-sets : (vs l : List ℕ) (i : ℕ) → Small l → Small vs → Small (sets l i vs)
+small-sets [] l i s t = s
+small-sets (v ∷ vs) l i s t = small-sets vs (set l i v) (suc i) (small-set l i v s (t .word 0)) (small-tail t)
+
+-- ---- a row's effect
+
+cut : (n : ℕ) → Word (n % 2 ^ 32)
+cut n = omega arith
+
+module _ (r : Row) (s : Agent) (k : Word (r .k)) (regs : Small (s .regs)) where
+  abbrev Fine : Agent → Type 0
+  Fine q = Small (q .regs)
+
+  either : (b : Bool) (x y : Agent) → Fine x → Fine y → Fine (cond b x y)
+  either true x y h g = h
+  either false x y h g = g
+
+  puts : (v : ℕ) → Word v → Fine (put (r .x) v s)
+  puts v h = small-set (s .regs) (r .x) v regs h
+
+  goes : (p : ℕ) → Fine (goTo p s)
+  goes p = regs
+
+  -- the message that a RECV takes has a word for its value
+  abbrev Carries : Best → Type 0
+  Carries Nothing = Unit
+  Carries (Message l b i v) = Word v
+
+  receives : (m : Best) → Carries m → Fine (receive r m s)
+  unfolding receive
+  receives Nothing c = regs
+  receives (Message l b i v) c = puts v c
+
+  pub after-small : (m : Best) → Carries m → Fine (after r m s)
+  unfolding after
+  after-small m c = search (either, puts, goes, receives, k, c, cut, ones-small, low-small) depth 14
