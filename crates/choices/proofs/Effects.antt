@@ -28,7 +28,7 @@ module _ (r : Row) (x y : ℕ) (s : Agent) (m : Best) (hx : getD (s .regs) (r .x
   unfolding after
   after-add e v q = rw (q, ← hx, ← hy, e)
 
-  pub after-sub : r .op ≡ 0x02 → (v : ℕ) → v ≡ (x + 2 ^ 32 - y) % 2 ^ 32 → put (r .x) v s ≡ after r m s
+  pub after-sub : r .op ≡ 0x02 → (v : ℕ) → v ≡ (x + 2 ^ 32 - y % 2 ^ 32) % 2 ^ 32 → put (r .x) v s ≡ after r m s
   unfolding after
   after-sub e v q = rw (q, ← hx, ← hy, e)
 

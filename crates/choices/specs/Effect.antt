@@ -29,7 +29,7 @@ after r m s =
     let y = getD (s .regs) (r .y) 0 in
     cond (eqb (r .op) 0x00) (put (r .x) (r .k) s)  -- SET x, k
     (cond (eqb (r .op) 0x01) (put (r .x) ((x + y) % 2 ^ 32) s)  -- ADD x, y
-    (cond (eqb (r .op) 0x02) (put (r .x) ((x + 2 ^ 32 - y) % 2 ^ 32) s)  -- SUB x, y
+    (cond (eqb (r .op) 0x02) (put (r .x) ((x + 2 ^ 32 - y % 2 ^ 32) % 2 ^ 32) s)  -- SUB x, y
     (cond (eqb (r .op) 0x03) (put (r .x) (onesIn 32 y) s)  -- ONES x, y
     (cond (eqb (r .op) 0x04) (put (r .x) (trailingZeros 32 y) s)  -- LOW x, y
     (cond (eqb (r .op) 0x10) (goTo (s .pos + 1 + cond (eqb x 0) (r .n) 0) s)  -- SKIP x, n

@@ -2,9 +2,10 @@
 use mathlib.Core.Path.{_≡_}
 use Prim.Native.Nat.{_<_}
 use native.Mathlib.Omega.{arith}
-use Rattle.tables.proofs.Good.{few}
-use Rattle.executive.specs.Laws.{Sound, BestIsTaken, NoneIsTaken, NextDepends, AcceptedExactly, StuckExactly, NeverStuck, StartFits, StepKeepsFit, RunIsSteps, RunCounts, OnesAreBits, LowIsLowest, SubIsRemainder}
-use Rattle.choices.proofs.After.{accepted-length}
+use Rattle.tables.proofs.Good.{few, few-rows}
+use Rattle.executive.specs.Laws.{Sound, BestIsTaken, NoneIsTaken, NextDepends, AcceptedExactly, StuckExactly, NeverStuck, StartFits, StepKeepsFit, SendIsSent, RunIsSteps, RunCounts}
+use Rattle.choices.specs.State.{pos}
+use Rattle.choices.proofs.After.{accepted-length, sent-own-mark, sent-own-value}
 use Rattle.choices.proofs.Choice.{allowed, allowed-reply}
 use Rattle.executive.proofs.Fitting.{fits-says}
 use Rattle.executive.proofs.Start.{start-length}
@@ -14,7 +15,6 @@ use Rattle.executive.proofs.Counted.{run-count, run-few}
 use Rattle.executive.proofs.Taken.{best-taken, best-none}
 use Rattle.executive.proofs.Stuck.{stuck-exactly as exactly, never-stuck as never}
 use Rattle.executive.proofs.Depends.{depends}
-use Rattle.executive.proofs.Bits.{ones-is, low-is, low-none, sub-is}
 
 pub best-is-taken : BestIsTaken
 best-is-taken = best-taken
@@ -53,17 +53,15 @@ step-keeps-fit tb st a t s c =
       state = accepted-length tb st a t (s .state) low;
     }
 
+pub send-is-sent : SendIsSent
+send-is-sent tb st a t s c send =
+    let h = allowed tb st a t c in
+    let low : a < 16 = omega (arith, h .agent, few tb (s .good)) in
+    let within : pos st a < 32 = omega (arith, h .unended, few-rows tb (s .good) a (h .agent)) in
+    (sent-own-mark tb st a t (s .state) low within send, sent-own-value tb st a t (s .state) low within send)
+
 pub run-is-steps : RunIsSteps
 run-is-steps = steps
 
 pub run-counts : RunCounts
 run-counts tb st cs h = let c = run-count tb st cs h in (c .0, c .1, run-few tb st cs h)
-
-pub ones-are-bits : OnesAreBits
-ones-are-bits = ones-is
-
-pub low-is-lowest : LowIsLowest
-low-is-lowest y = (low-is y, low-none y)
-
-pub sub-is-remainder : SubIsRemainder
-sub-is-remainder = sub-is

@@ -9,7 +9,8 @@ pub mod Counted
 pub mod Taken
 pub mod Stuck
 pub mod Depends
-pub mod Bits
+pub mod Numbers
+pub mod Effects
 pub mod Laws
 pub mod Outcomes
 pub mod RunOn

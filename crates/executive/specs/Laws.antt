@@ -3,18 +3,18 @@ use mathlib.Core.Path.{_≡_}
 use mathlib.Core.Logic.{_↔_, _⊎_}
 use mathlib.Core.Bool.{true, false}
 use mathlib.Core.List.{List, [], _∷_}
-use Prim.Native.Nat.{ℕ, zero, suc, _+_, _-_, _/_, _%_, _^_, _≤_, _<_}
+use Prim.Native.Nat.{ℕ, zero, suc, _+_, _≤_, _<_}
 use lib.ListN.{length}
-use lib.Count.{onesIn, trailingZeros}
 use Rattle.tables.specs.Layout.{agents, rows, row, tableWords}
 use Rattle.tables.specs.Table.{goodTable}
 use Rattle.tables.specs.declared.Row.{Row}
 use Rattle.choices.specs.declared.Best.{Best}
 use Rattle.choices.specs.declared.Best.the-variants.{Nothing, Message}
-use Rattle.choices.specs.State.{clock, pos, Pool, pool, agentAt, startWords, stateWords}
+use Rattle.choices.specs.State.{clock, pos, mark, value, Pool, pool, agentAt, startWords, stateWords}
 use Rattle.choices.specs.Messages.{visible, best}
 use Rattle.choices.specs.Fit.{current, fits}
 use Rattle.choices.specs.Step.{choiceReply, Allowed, stuck, accepted}
+use Rattle.executive.specs.Effects.{heldX}
 use Rattle.executive.specs.Run.{RunOutcome, ended}
 use Rattle.executive.specs.Calls.{startInto, stepInto, runRefusal, runInto}
 
@@ -87,6 +87,13 @@ StartFits = (tb : List ℕ) → goodTable tb ≡ true → length tb ≡ tableWor
 abbrev pub StepKeepsFit : Type 0
 StepKeepsFit = (tb st : List ℕ) (a t : ℕ) → Sound tb st → choiceReply tb st a t ≡ 0 → Sound tb (accepted tb st a t)
 
+-- ---- SEND
+
+-- "the value of x is sent": "A SEND sets its own mark and value", the place of its row, and x is the agent's before it
+abbrev pub SendIsSent : Type 0
+SendIsSent = (tb st : List ℕ) (a t : ℕ) → Sound tb st → choiceReply tb st a t ≡ 0 → current tb st a .op ≡ 0x20
+    → (mark (accepted tb st a t) a (pos st a) ≡ 1) × (value (accepted tb st a t) a (pos st a) ≡ heldX (current tb st a) (agentAt st a))
+
 -- ---- runs
 
 -- the choices made one by one, each a call of `step` on the words that the one before left, up to the first that is refused
@@ -116,31 +123,3 @@ RunCounts = (tb st cs : List ℕ) → runRefusal tb st cs ≡ 0
     → Begins tb (startInto tb st .state) cs (runInto tb st cs .count)
     × ((j : ℕ) → Begins tb (startInto tb st .state) cs j → j ≤ runInto tb st cs .count)
     × (runInto tb st cs .count ≤ 512)
-
--- ---- bits
-
--- bit i of y, and the sum of the n lowest bits
-abbrev pub bit : ℕ → ℕ → ℕ
-bit y i = y / 2 ^ i % 2
-
-abbrev pub bits : ℕ → ℕ → ℕ
-bits y zero = 0
-bits y (suc n) = bits y n + bit y n
-
--- t zero bits below the lowest one bit, of the n lowest bits of y; n where none of them is one
-pub record Lowest (n y t : ℕ) : Type 0 where
-  pub most : t ≤ n
-  pub zeros : (i : ℕ) → i < t → bit y i ≡ 0
-  pub one : t < n → bit y t ≡ 1
-
--- ONES: "the number of one bits in y"
-abbrev pub OnesAreBits : Type 0
-OnesAreBits = (y : ℕ) → onesIn 32 y ≡ bits y 32
-
--- LOW: "the number of zero bits below the lowest one bit of y; 32 where y is 0"
-abbrev pub LowIsLowest : Type 0
-LowIsLowest = (y : ℕ) → Lowest 32 y (trailingZeros 32 y) × ((trailingZeros 32 y ≡ 32) ↔ ((i : ℕ) → i < 32 → bit y i ≡ 0))
-
--- SUB: the number below 2^32 that, with y added, is x modulo 2^32. (ADD is the remainder by its own text.)
-abbrev pub SubIsRemainder : Type 0
-SubIsRemainder = (x y : ℕ) → y ≤ 2 ^ 32 → ((x + 2 ^ 32 - y) % 2 ^ 32 < 2 ^ 32) × (((x + 2 ^ 32 - y) % 2 ^ 32 + y) % 2 ^ 32 ≡ x % 2 ^ 32)

@@ -11,8 +11,11 @@ tableWords = 2129
 abbrev pub agents : List ℕ → ℕ
 agents tb = getD tb 0 0
 
+abbrev pub countPlace : ℕ → ℕ
+countPlace a = 1 + a
+
 abbrev pub rows : List ℕ → ℕ → ℕ
-rows tb a = getD tb (1 + a) 0
+rows tb a = getD tb (countPlace a) 0
 
 abbrev pub startPlace : ℕ → ℕ
 startPlace a = 17 + 4 * a

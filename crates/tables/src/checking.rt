@@ -1,9 +1,18 @@
 // The check of a table's words.
+use crate::layout::MOST_AGENTS;
+use crate::layout::MOST_ROWS;
+use crate::layout::ROWS_AT;
+use crate::layout::STARTS_AT;
+use crate::layout::TABLE_WORDS;
+use crate::layout::agent_count;
+use crate::layout::count_place;
+use crate::layout::row_count;
+use crate::layout::row_place;
+use crate::layout::start_place;
 use crate::replies::ACCEPTED;
 use crate::replies::BAD_TABLE;
 use crate::replies::TOO_SHORT;
 use crate::rows::row_at;
-use crate::rows::row_place;
 use crate::rows::row_reply;
 use crate::words::all_zero;
 ghost use mathlib.Core.Path.{_≡_};
@@ -39,11 +48,11 @@ fn agent_is_good(table: &[u32], a: usize) -> bool
     requires { ⌜ (tableWords ≤ length (now table)) × (a < 16) ⌝ }
     ensures { λ r. ⌜ r ≡ goodAgent (now (table .entry)) a ⌝ }
 {
-    let c = table[1 + a];
+    let c = row_count(table, a);
     if c < 1 {
         return false;
     }
-    if 32 < c {
+    if MOST_ROWS < c as usize {
         return false;
     }
     if !rows_are_good(table, a, c) {
@@ -72,33 +81,33 @@ pub fn table_is_good(table: &[u32]) -> bool
     requires { ⌜ length (now table) ≡ tableWords ⌝ }
     ensures { λ r. ⌜ r ≡ goodTable (now (table .entry)) ⌝ }
 {
-    let n = table[0] as usize;
+    let n = agent_count(table) as usize;
     if n < 1 {
         return false;
     }
-    if 16 < n {
+    if MOST_AGENTS < n {
         return false;
     }
     if !agents_are_good(table, n) {
         return false;
     }
-    if !all_zero(table, 1 + n, 17) {
+    if !all_zero(table, count_place(n), STARTS_AT) {
         return false;
     }
-    if !all_zero(table, 17 + 4 * n, 81) {
+    if !all_zero(table, start_place(n), ROWS_AT) {
         return false;
     }
-    all_zero(table, row_place(n, 0), 2129)
+    all_zero(table, row_place(n, 0), TABLE_WORDS)
 }
 
 // Replies 1, 8 or 0. Words past the table's are not looked at.
 pub fn check(table: &[u32]) -> u32
     ensures { λ r. ⌜ Checked (now (table .entry)) r ⌝ }
 {
-    if table.len() < 2129 {
+    if table.len() < TABLE_WORDS {
         return TOO_SHORT;
     }
-    if !table_is_good(&table[..2129]) {
+    if !table_is_good(&table[..TABLE_WORDS]) {
         return BAD_TABLE;
     }
     ACCEPTED

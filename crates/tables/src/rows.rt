@@ -1,6 +1,7 @@
 // A row of a table: its words taken apart, its family, and its refusal.
 use crate::Family;
 use crate::Row;
+use crate::layout::row_place;
 use crate::replies::ACCEPTED;
 use crate::replies::BAD_ROW;
 use crate::replies::BAD_TARGET;
@@ -9,7 +10,7 @@ use crate::replies::WINDOW_GOES_BACK;
 ghost use mathlib.Core.Path.{_≡_};
 ghost use Prim.Native.Nat.{_≤_, _<_};
 ghost use lib.ListN.{length};
-ghost use Rattle.tables.specs.Layout.{row, rowOf, rowPlace, tableWords};
+ghost use Rattle.tables.specs.Layout.{row, rowOf, tableWords};
 ghost use Rattle.tables.specs.Family.{familyOf};
 ghost use Rattle.tables.specs.Rows.{within, fieldsFit, wellFormed, rowReply};
 
@@ -39,14 +40,6 @@ pub fn row_of(code: u32, k: u32, early: u32, late: u32) -> Row
         early,
         late,
     }
-}
-
-// Where row i of agent a begins.
-pub fn row_place(a: usize, i: usize) -> usize
-    requires { ⌜ (a ≤ 16) × (i ≤ 32) ⌝ }
-    ensures { λ r. ⌜ r ≡ rowPlace a i ⌝ }
-{
-    81 + 4 * (32 * a + i)
 }
 
 // Row i of agent a.

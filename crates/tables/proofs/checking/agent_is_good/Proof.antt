@@ -1,4 +1,4 @@
--- `agent_is_good` meets its contract: the tests of `goodAgent` in their order. Assumes nothing.
+-- `agent_is_good` meets its contract: the tests of `goodAgent` in their order, of the rows that were counted. Assumes nothing.
 use borrow.Author.Needs.{needs}
 use borrow.Author.Tests.{le-leb, lt-leb}
 use Rattle.tables.specs.Table.{goodAgent}
@@ -7,24 +7,22 @@ use Rattle.tables.proofs.Passed.{every-stop, every-go, every-last}
 use Rattle.tables.proofs.checking.agent_is_good.Statement.{statement}
 use Rattle.tables.proofs.checking.agent_is_good.Tie as tie
 
-add-c : tie.Need-add-c
-add-c c = search needs
-
-mul-c : tie.Need-mul-c
-mul-c c = search needs
-
-shared-slice-read-c : tie.Need-shared-slice-read-c
-shared-slice-read-c c = search needs
+row-count-requires : tie.Need-row-count-requires
+row-count-requires c κs = search needs
 
 returns : tie.Need-returns
 unfolding goodAgent
-returns c =
-    every-stop _ _ (lt-leb _ _ (c .if1 .taken))
+returns c = rw (← c .before .row-count .ensures) (every-stop _ _ (lt-leb _ _ (c .if1 .taken)))
+
+cast-if2 : tie.Need-cast-if2
+cast-if2 c = search needs
 
 returns-2 : tie.Need-returns-2
 unfolding goodAgent
 returns-2 c =
-    every-go _ _ _ (le-leb _ _ (c .before .if1 .left)) (every-stop _ _ (lt-leb _ _ (c .if2 .taken)))
+    rw (← c .before .before .row-count .ensures)
+    (every-go _ _ _ (le-leb _ _ (c .before .if1 .left))
+    (every-stop _ _ (lt-leb _ _ (c .if2 .taken))))
 
 rows-are-good-requires : tie.Need-rows-are-good-requires
 rows-are-good-requires c κs = search needs
@@ -32,9 +30,11 @@ rows-are-good-requires c κs = search needs
 returns-3 : tie.Need-returns-3
 unfolding goodAgent
 returns-3 c =
-    every-go _ _ _ (le-leb _ _ (c .before .before .before .if1 .left))
-    (every-go _ _ _ (le-leb _ _ (c .before .before .if2 .left))
-    (every-stop _ _ (refused _ _ (c .before .rows-are-good .ensures) (c .if3 .taken))))
+    let d = c .before .before in
+    rw (← d .before .before .row-count .ensures)
+    (every-go _ _ _ (le-leb _ _ (d .before .if1 .left))
+    (every-go _ _ _ (le-leb _ _ (d .if2 .left))
+    (every-stop _ _ (refused _ _ (c .before .rows-are-good .ensures) (c .if3 .taken)))))
 
 cast-row-place : tie.Need-cast-row-place
 cast-row-place c = search needs
@@ -54,20 +54,21 @@ all-zero-requires c κs = search needs
 returns-4 : tie.Need-returns-4
 unfolding goodAgent
 returns-4 c =
-    let d = c .before .before .before in
-    every-go _ _ _ (le-leb _ _ (d .before .before .before .if1 .left))
-    (every-go _ _ _ (le-leb _ _ (d .before .before .if2 .left))
-    (every-go _ _ _ (granted _ _ (d .before .rows-are-good .ensures) (d .if3 .left))
-    (rw (← c .before .row-place2 .ensures, ← c .before .before .row-place .ensures, ← c .all-zero .ensures) (every-last _))))
+    let e = c .before .before .before in
+    let d = e .before .before in
+    rw (← d .before .before .row-count .ensures, ← c .before .row-place2 .ensures, ← c .before .before .row-place .ensures)
+    (every-go _ _ _ (le-leb _ _ (d .before .if1 .left))
+    (every-go _ _ _ (le-leb _ _ (d .if2 .left))
+    (every-go _ _ _ (granted _ _ (e .before .rows-are-good .ensures) (e .if3 .left))
+    (rw (← c .all-zero .ensures) (every-last _)))))
 
 pub agent-is-good-spec : {M : Type 1} → statement M
 agent-is-good-spec =
     tie.close
     (tie.spec
-    add-c
-    mul-c
-    shared-slice-read-c
+    row-count-requires
     returns
+    cast-if2
     returns-2
     rows-are-good-requires
     returns-3
