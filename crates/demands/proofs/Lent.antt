@@ -123,7 +123,7 @@ even-take : (n : ℕ) (cs : List ℕ) → length cs % 2 ≡ 0 → length (take (
 even-take n cs even = let l = length-take (2 * n) cs in omega arith
 
 -- so a run over it begins too
-begins-by : (tb st cs : List ℕ) → ltb (length tb) tableWords ≡ false → ltb (length st) stateWords ≡ false → length cs % 2 ≡ 0 → goodTable (tablePart tb) ≡ true
+pub begins-by : (tb st cs : List ℕ) → ltb (length tb) tableWords ≡ false → ltb (length st) stateWords ≡ false → length cs % 2 ≡ 0 → goodTable (tablePart tb) ≡ true
     → runRefusal tb st cs ≡ 0
 unfolding runRefusal first
 begins-by tb st cs table state even good = rw (table, state, ne-eqb (length cs % 2) 1 (λ x. omega arith), good)
@@ -135,7 +135,7 @@ begins-too tb st cs n e =
     let odd = eqb-false (length cs % 2) 1 (clear 2) in
     begins-by tb st (take (2 * n) cs) (clear 0) (clear 1) (even-take n cs (omega arith)) (not-false _ (clear 3))
 
-begun-whole : (tb st cs : List ℕ) → runRefusal tb st cs ≡ 0 → begun tb st cs ≡ cs
+pub begun-whole : (tb st cs : List ℕ) → runRefusal tb st cs ≡ 0 → begun tb st cs ≡ cs
 begun-whole tb st cs e = ap (λ (x : ℕ). elim x as (λ _. List ℕ) [ zero ↦ cs | suc r ↦ [] ]) e
 
 pub run-makes : RunMakes

@@ -11,3 +11,7 @@ pub mod Call
 pub mod Demand3
 pub mod Lent
 pub mod Parsed
+pub mod Small
+pub mod TableText
+pub mod Traced
+pub mod Agree

@@ -142,3 +142,16 @@ module _ (tb : List ℕ) (table : Table tb) where
           let z = ap length (steps-go tb st a t cs e) in
           let here : 2 * suc k ≡ suc (suc (2 * k)) = omega arith in
           rw here (rest e k (omega arith))
+
+-- a number that names no agent comes to no state
+pub comes-nowhere : (cs tb st : List ℕ) (b : ℕ) → agents tb ≤ b → comesTo b (stepsFrom tb st cs) ≡ []
+unfolding stepsFrom comesTo
+comes-nowhere [] tb st b h = refl
+comes-nowhere (a ∷ []) tb st b h = refl
+comes-nowhere (a ∷ t ∷ cs) tb st b h = go (choiceReply tb st a t) refl (comes-nowhere cs tb (accepted tb st a t) b h)
+  where
+    go : (r : ℕ) → choiceReply tb st a t ≡ r → comesTo b (stepsFrom tb (accepted tb st a t) cs) ≡ [] → comesTo b (stepsFrom tb st (a ∷ t ∷ cs)) ≡ []
+    go zero e rest =
+        let other : a ≢ b = λ p. omega (arith, allowed tb st a t e .agent) in
+        ap (comesTo b) (steps-go tb st a t cs e) ∙ rw (ne-eqb a b other) rest
+    go (suc r) e rest = ap (comesTo b) (steps-stop tb st a t cs r e)

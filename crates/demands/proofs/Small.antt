@@ -3,21 +3,21 @@ use mathlib.Core.Path.{_≡_, refl, sym, ap, subst, _∙_}
 use mathlib.Core.Logic.{_≢_, by-cases}
 use mathlib.Core.Bool.{Bool, true, false, cond}
 use mathlib.Core.List.{List, [], _∷_, _++_}
-use Prim.Native.Nat.{ℕ, zero, suc, _+_, _-_, _%_, _^_, _≤_, _<_}
+use Prim.Native.Nat.{ℕ, zero, suc, _+_, _-_, _/_, _%_, _^_, _≤_, _<_}
 use native.Mathlib.Decide.{decLt, ℕ-discrete}
 use native.Mathlib.Omega.{arith}
 use lib.Dec.{eqb, lit<}
 use lib.ListN.{length, getD, set, take, drop, replicate}
 use lib.Seq.{sets, set-out, getD-set-same, getD-set-other, getD-take, getD-drop, take-nil}
-use lib.Count.{onesIn, trailingZeros}
+use lib.Count.{onesIn, trailingZeros, trailing-le}
 use Rattle.tables.specs.declared.Row.{Row}
-use Rattle.tables.specs.Layout.{agents, row, rowPlace}
+use Rattle.tables.specs.Layout.{agents, row, rowOf, rowPlace}
 use Rattle.choices.specs.declared.Agent.{Agent}
 use Rattle.choices.specs.declared.Best.{Best}
 use Rattle.choices.specs.declared.Best.the-variants.{Nothing, Message}
-use Rattle.choices.specs.State.{pool, agentAt, startWords, regPlace, valuePlace}
+use Rattle.choices.specs.State.{pool, agentAt, startWords, posPlace, regPlace, markPlace, valuePlace}
 use Rattle.choices.specs.Messages.{best}
-use Rattle.choices.specs.Effect.{after, receive, put, goTo}
+use Rattle.choices.specs.Effect.{after, receive, put}
 use Rattle.choices.specs.Step.{accepted, withAgent, withSent}
 use Rattle.executive.specs.Laws.{Taken}
 use Rattle.executive.proofs.Taken.{best-taken}
@@ -43,8 +43,11 @@ pub small-tail : {x : ℕ} {xs : List ℕ} → Small (x ∷ xs) → Small xs
 small-tail s = record { word = λ i. s .word (suc i) }
 
 pub small-append : {xs ys : List ℕ} → Small xs → Small ys → Small (xs ++ ys)
-small-append {[]} s t = t
-small-append {x ∷ xs} s t = small-cons (s .word 0) (small-append (small-tail s) t)
+small-append {xs} {ys} s t = go xs s
+  where
+    go : (l : List ℕ) → Small l → Small (l ++ ys)
+    go [] s = t
+    go (x ∷ l) s = small-cons (s .word 0) (go l (small-tail s))
 
 pub small-zeros : (n : ℕ) → Small (replicate n 0)
 small-zeros zero = small-nil
@@ -54,9 +57,12 @@ pub small-drop : (n : ℕ) {l : List ℕ} → Small l → Small (drop n l)
 small-drop n {l} s = record { word = λ i. rw (getD-drop n l i 0) (s .word (n + i)) }
 
 pub small-take : (n : ℕ) {l : List ℕ} → Small l → Small (take n l)
-small-take zero s = small-nil
-small-take (suc n) {[]} s = small-nil
-small-take (suc n) {x ∷ l} s = small-cons (s .word 0) (small-take n (small-tail s))
+small-take n {l} s = go n l s
+  where
+    go : (n : ℕ) (l : List ℕ) → Small l → Small (take n l)
+    go zero l s = small-nil
+    go (suc n) [] s = small-nil
+    go (suc n) (x ∷ l) s = small-cons (s .word 0) (go n l (small-tail s))
 
 pub small-set : (l : List ℕ) (i v : ℕ) → Small l → Word v → Small (set l i v)
 small-set l i v s h = record { word = λ j. at j (ℕ-discrete j i) (decLt i (length l)) }
@@ -75,6 +81,22 @@ small-sets (v ∷ vs) l i s t = small-sets vs (set l i v) (suc i) (small-set l i
 cut : (n : ℕ) → Word (n % 2 ^ 32)
 cut n = omega arith
 
+ones-most : (n y : ℕ) → onesIn n y ≤ n
+unfolding onesIn
+ones-most zero y = omega arith
+ones-most (suc n) y = let m = ones-most n (y / 2) in omega arith
+
+ones-small : (y : ℕ) → Word (onesIn 32 y)
+ones-small y = let m = ones-most 32 y in omega arith
+
+low-small : (y : ℕ) → Word (trailingZeros 32 y)
+low-small y = let m = trailing-le 32 y in omega arith
+
+-- the message that a RECV takes has a word for its value
+abbrev Carries : Best → Type 0
+Carries Nothing = Unit
+Carries (Message l b i v) = Word v
+
 module _ (r : Row) (s : Agent) (k : Word (r .k)) (regs : Small (s .regs)) where
   abbrev Fine : Agent → Type 0
   Fine q = Small (q .regs)
@@ -86,14 +108,6 @@ module _ (r : Row) (s : Agent) (k : Word (r .k)) (regs : Small (s .regs)) where
   puts : (v : ℕ) → Word v → Fine (put (r .x) v s)
   puts v h = small-set (s .regs) (r .x) v regs h
 
-  goes : (p : ℕ) → Fine (goTo p s)
-  goes p = regs
-
-  -- the message that a RECV takes has a word for its value
-  abbrev Carries : Best → Type 0
-  Carries Nothing = Unit
-  Carries (Message l b i v) = Word v
-
   receives : (m : Best) → Carries m → Fine (receive r m s)
   unfolding receive
   receives Nothing c = regs
@@ -101,4 +115,43 @@ module _ (r : Row) (s : Agent) (k : Word (r .k)) (regs : Small (s .regs)) where
 
   pub after-small : (m : Best) → Carries m → Fine (after r m s)
   unfolding after
-  after-small m c = search (either, puts, goes, receives, k, c, cut, ones-small, low-small) depth 14
+  after-small m c = search (either, puts, receives, k, c, cut, ones-small, low-small) depth 14
+
+-- ---- a step
+
+carried : (tb st : List ℕ) (r : Row) → Small st → (m : Best) → Taken tb (pool st) r m → Carries m
+carried tb st r s Nothing t = tt
+carried tb st r s (Message l b i v) t = rw (t .4) (s .word (valuePlace b i))
+
+module _ (tb st : List ℕ) (few : agents tb ≤ 16) (table : Small tb) (state : Small st) (a t : ℕ) (time : Word t) where
+  abbrev s : Agent
+  s = agentAt st a
+
+  abbrev r : Row
+  r = row tb a (s .pos)
+
+  own-small : Small (s .regs)
+  own-small = small-take 4 (small-drop (regPlace a) state)
+
+  next-small : Small (after r (best tb (pool st) r) s .regs)
+  unfolding rowOf
+  next-small = after-small r s (table .word (rowPlace a (s .pos) + 1)) own-small (best tb (pool st) r) (carried tb st r state (best tb (pool st) r) (best-taken tb (pool st) r few))
+
+  sent-small : (l : List ℕ) → Small l → Small (withSent l a r s)
+  unfolding withSent
+  sent-small l h = go (eqb (r .op) 0x20)
+    where
+      go : (b : Bool) → Small (cond b (set (set l (markPlace a (s .pos)) 1) (valuePlace a (s .pos)) (getD (s .regs) (r .x) 0)) l)
+      go true = small-set _ (valuePlace a (s .pos)) (getD (s .regs) (r .x) 0) (small-set l (markPlace a (s .pos)) 1 h (lit< tt)) (own-small .word (r .x))
+      go false = h
+
+  pub accepted-small : Word (after r (best tb (pool st) r) s .pos) → Small (accepted tb st a t)
+  unfolding accepted withAgent
+  accepted-small position =
+      let q = after r (best tb (pool st) r) s in
+      sent-small _ (small-sets (q .regs) (set (set st 0 t) (posPlace a) (q .pos)) (regPlace a)
+      (small-set (set st 0 t) (posPlace a) (q .pos) (small-set st 0 t state time) position) next-small)
+
+pub start-small : (tb : List ℕ) → Small tb → Small (startWords tb)
+unfolding startWords
+start-small tb table = small-append (small-cons (lit< tt) (small-zeros 16)) (small-append (small-take 64 (small-drop 17 table)) (small-zeros 1024))

@@ -1,0 +1,153 @@
+-- A text that `read` accepts: its words are words of 32 bits, and at the front of an input it is the table's text, whatever follows. Assumes nothing.
+use mathlib.Core.Path.{_≡_, refl, sym, ap, ap₂, subst, _∙_}
+use mathlib.Core.Bool.{Bool, true, false, cond}
+use mathlib.Core.List.{List, [], _∷_, _++_, map, append-assoc, append-nil}
+use Prim.Native.Nat.{ℕ, zero, suc, _+_, _-_, _^_, _≤_, _<_}
+use native.Mathlib.Omega.{arith}
+use lib.Dec.{ltb, eqb}
+use lib.ListN.{length, take, drop, length-append}
+use lib.Seq.{take-at, take-append-seam}
+use Rattle.tables.specs.Layout.{tableWords}
+use Rattle.tables.specs.Lines.{same, newline, endLine, lines, allHex, number, field, digitsLine}
+use Rattle.tables.specs.Frames.{Frame, opens, gives, ends, malformed, fourWords, frameOf, framesOf}
+use Rattle.tables.proofs.Passed.{and-1}
+use Rattle.tables.proofs.Lines.{same-eq, same-self, hex-part, number-next, number-room}
+use Rattle.tables.proofs.Newlines.{joined, joined-lines, line-hex, line-length, lines-end}
+use Rattle.reading.specs.Reader.{noneLeft, told, inPlace, framesReply, loaded, tableOf}
+use Rattle.reading.proofs.Accepted.{Placed, placed-first, open-agent, open-on, give-row, give-on}
+use Rattle.reading.proofs.Outcomes.{accepted-placed}
+use Rattle.traces.specs.Input.{tableBytes, tableText, choiceLines, goodChoice, badChoice, choicesIn}
+use Rattle.demands.proofs.Parsed.{line-first}
+use Rattle.demands.proofs.Small.{Word, Small, small-nil, small-cons, small-zeros, small-set, small-sets}
+
+-- ---- the words in a line
+
+-- a number of at most eight digits of a line
+field-word : (n : ℕ) (l : List ℕ) (i k : ℕ) → digitsLine n l ≡ true → k < 8 → i + (k + 1) ≤ n → Word (field l i (k + 1))
+unfolding field
+field-word n l i k h few within =
+    let long = line-length n l h in
+    let hex = hex-part l n i (k + 1) (line-hex n l h) within in
+    rw (number-next l i (k + 1) k (omega arith) (omega arith)) (number-room l i (k + 1) k (omega arith) (omega arith) (omega arith) hex)
+
+-- what a frame tells of its line
+abbrev Tells : List ℕ → Frame → Type 0
+Tells l (opens b ws) = (same l endLine ≡ false) × (digitsLine 36 l ≡ true) × Small ws
+Tells l (gives b ws) = (same l endLine ≡ false) × (digitsLine 36 l ≡ true) × Small ws
+Tells l ends = same l endLine ≡ true
+Tells l malformed = Unit
+
+four-small : (l : List ℕ) → digitsLine 36 l ≡ true → Small (fourWords l)
+unfolding fourWords
+four-small l h =
+    let word : (i : ℕ) → i + 8 ≤ 36 → Word (field l i 8) = λ i within. field-word 36 l i 7 h (omega arith) within in
+    small-cons (word 4 (omega arith)) (small-cons (word 12 (omega arith)) (small-cons (word 20 (omega arith)) (small-cons (word 28 (omega arith)) small-nil)))
+
+tells : (l : List ℕ) → Tells l (frameOf l)
+unfolding frameOf
+tells l = go (same l endLine) (digitsLine 36 l) (eqb (field l 0 2) 0x00) (eqb (field l 0 2) 0x01) refl refl
+  where
+    go : (e d z o : Bool) → same l endLine ≡ e → digitsLine 36 l ≡ d
+        → Tells l (cond e ends (cond d (cond z (opens (field l 2 2) (fourWords l)) (cond o (gives (field l 2 2) (fourWords l)) malformed)) malformed))
+    go true d z o p q = p
+    go false false z o p q = tt
+    go false true true o p q = (p, q, four-small l q)
+    go false true false true p q = (p, q, four-small l q)
+    go false true false false p q = tt
+
+-- ---- the table that is read
+
+table-small : (ls : List (List ℕ)) (tb : List ℕ) (n a i : ℕ) → Small tb → Placed n a i (map frameOf ls) → Small (loaded tb a i (map frameOf ls))
+unfolding loaded
+table-small [] tb n a i s q = s
+table-small (l ∷ ls) tb n a i s q = go (frameOf l) (tells l) q (λ tb n a i. table-small ls tb n a i)
+  where
+    go : (f : Frame) → Tells l f → Placed n a i (f ∷ map frameOf ls)
+        → ((tb : List ℕ) (n a i : ℕ) → Small tb → Placed n a i (map frameOf ls) → Small (loaded tb a i (map frameOf ls)))
+        → Small (loaded tb a i (f ∷ map frameOf ls))
+    go (opens b ws) t q rest =
+        let l = open-agent n a i b ws (map frameOf ls) q in
+        rest _ (n + 1) (a + 1) 0 (small-sets ws _ _ (small-set tb _ (a + 1) s (omega arith)) (t .2)) (open-on n a i b ws (map frameOf ls) q)
+    go (gives b ws) t q rest =
+        let l = give-row n a i b ws (map frameOf ls) q in
+        rest _ (n + 1) a (i + 1) (small-sets ws _ _ (small-set tb _ (i + 1) s (omega arith)) (t .2)) (give-on n a i b ws (map frameOf ls) q)
+    go ends t q rest = s
+    go malformed t q rest = s
+
+pub read-small : (text : List ℕ) → framesReply (framesOf text) .reply ≡ 0 → Small (tableOf (framesOf text))
+unfolding tableOf framesOf
+read-small text h = table-small (lines text) _ 1 0 0 (small-zeros tableWords) (placed-first (framesOf text) (accepted-placed (framesOf text) h))
+
+-- ---- the choices
+
+choice-digits : (l : List ℕ) → goodChoice l ≡ true → digitsLine 12 l ≡ true
+unfolding goodChoice
+choice-digits l q = and-1 (digitsLine 12 l) (eqb (field l 0 2) 0x02) q
+
+pub choices-small : (ls : List (List ℕ)) (n : ℕ) → 0 < n → badChoice n ls ≡ 0 → Small (choicesIn ls)
+unfolding badChoice choicesIn
+choices-small [] n p h = small-nil
+choices-small (l ∷ ls) n p h = go (goodChoice l) refl (λ e. choices-small ls (n + 1) (omega arith) e)
+  where
+    opened : (b : Bool) → goodChoice l ≡ b → badChoice n (l ∷ ls) ≡ elim b [ true ↦ badChoice (n + 1) ls | false ↦ n ]
+    opened b q = rw (q, badChoice)
+
+    go : (b : Bool) → goodChoice l ≡ b → (badChoice (n + 1) ls ≡ 0 → Small (choicesIn ls)) → Small (choicesIn (l ∷ ls))
+    go true q rest =
+        small-cons (field-word 12 l 2 1 (choice-digits l q) (omega arith) (omega arith))
+        (small-cons (field-word 12 l 4 7 (choice-digits l q) (omega arith) (omega arith)) (rest (sym (opened true q) ∙ h)))
+    go false q rest = let z : n ≡ 0 = sym (opened false q) ∙ h in absurd (omega arith)
+
+-- ---- where the text ends
+
+-- nothing follows the end line
+ends-last : (n a i : ℕ) (fs : List Frame) → Placed n a i (ends ∷ fs) → fs ≡ []
+unfolding inPlace
+ends-last n a i [] q = refl
+ends-last n a i (f ∷ fs) q = go (ltb 0 i) (q .placed)
+  where
+    go : (b : Bool) → cond b (told 3 (n + 1)) (told 3 n) .reply ≡ 0 → f ∷ fs ≡ []
+    go true e = absurd (omega arith)
+    go false e = absurd (omega arith)
+
+none-mapped : (ls : List (List ℕ)) → map frameOf ls ≡ [] → ls ≡ []
+none-mapped [] e = refl
+none-mapped (l ∷ ls) e = absurd (let z = ap length e in omega arith)
+
+-- lines that are a table's text, whatever text follows them
+record Closes (ls : List (List ℕ)) : Type 0 where
+  bytes : (rest : List (List ℕ)) → tableBytes (ls ++ rest) ≡ length (joined ls)
+  splits : (r : List ℕ) → lines (joined ls ++ r) ≡ ls ++ lines r
+
+closes : (ls : List (List ℕ)) (n a i : ℕ) → Placed n a i (map frameOf ls) → Closes ls
+unfolding inPlace tableBytes joined
+closes [] n a i q = absurd (let z = q .placed in omega arith)
+closes (l ∷ ls) n a i q = go (frameOf l) (tells l) q (λ n a i. closes ls n a i)
+  where
+    longer : same l endLine ≡ false → digitsLine 36 l ≡ true → Closes ls → Closes (l ∷ ls)
+    longer e d c = record {
+      bytes = λ rest. rw (e, c .bytes rest) (sym (length-append l (joined ls)));
+      splits = λ r. ap lines (append-assoc l (joined ls) r) ∙ line-first 36 l (joined ls ++ r) (line-length 36 l d) d ∙ ap (λ (x : List (List ℕ)). l ∷ x) (c .splits r);
+    }
+
+    last : l ≡ endLine → ls ≡ [] → Closes (l ∷ ls)
+    last e z = record {
+      bytes = λ rest. rw (e, z, same-self endLine);
+      splits = λ r. rw (e, z) (lines-end (endLine ++ r) (same-self endLine));
+    }
+
+    go : (f : Frame) → Tells l f → Placed n a i (f ∷ map frameOf ls) → ((n a i : ℕ) → Placed n a i (map frameOf ls) → Closes ls) → Closes (l ∷ ls)
+    go (opens b ws) t q rest = longer (t .0) (t .1) (rest (n + 1) (a + 1) 0 (open-on n a i b ws (map frameOf ls) q))
+    go (gives b ws) t q rest = longer (t .0) (t .1) (rest (n + 1) a (i + 1) (give-on n a i b ws (map frameOf ls) q))
+    go ends t q rest = last (same-eq l endLine t) (none-mapped ls (ends-last n a i (map frameOf ls) q))
+    go malformed t q rest = absurd (let z = q .placed in omega arith)
+
+-- The table's text of an input that begins with it.
+pub table-text : (text more : List ℕ) → framesReply (framesOf text) .reply ≡ 0 → tableText (text ++ more) ≡ text
+unfolding tableText framesOf
+table-text text more h =
+    let c = closes (lines text) 1 0 0 (placed-first (framesOf text) (accepted-placed (framesOf text) h)) in
+    let j = joined-lines text in
+    let split : lines (text ++ more) ≡ lines text ++ lines more = ap (λ (t : List ℕ). lines (t ++ more)) (sym j) ∙ c .splits more in
+    let end : tableBytes (lines (text ++ more)) ≡ length text = ap tableBytes split ∙ c .bytes (lines more) ∙ ap length j in
+    rw end (take-append-seam text more)
