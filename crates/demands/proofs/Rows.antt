@@ -1,10 +1,11 @@
 -- A row's instruction: what it sends and awaits, and that it does what the executive's row does. Assumes nothing.
-use mathlib.Core.Path.{_≡_, refl}
+use mathlib.Core.Path.{_≡_, refl, sym, ap, _∙_}
 use mathlib.Core.Logic.{_≢_}
 use mathlib.Core.Bool.{Bool, true, false, cond}
 use mathlib.Core.Option.{Option, none, some, Option·none-ne-some, Option·some-injective}
 use mathlib.Core.List.{List}
 use Prim.Native.Nat.{ℕ, _+_, _≤_, _<_}
+use native.Mathlib.Nat.{add-zero}
 use native.Mathlib.Omega.{arith}
 use lib.Dec.{eqb}
 use lib.ListN.{getD}
@@ -14,23 +15,25 @@ use Rattle.tables.specs.declared.Row.{Row}
 use Rattle.choices.specs.declared.Agent.{Agent}
 use Rattle.choices.specs.declared.Best.{Best}
 use Rattle.choices.specs.declared.Best.the-variants.{Nothing, Message}
-use Rattle.choices.specs.Effect.{after, receive as takes}
+use Rattle.choices.specs.Effect.{goTo, after}
 use Rattle.choices.proofs.After.{after-on}
-use Rattle.demands.specs.Instance.{sending, receiving, instructionOf, published}
+use Rattle.executive.proofs.Effects.{send-is-on, receive-found, receive-none}
+use Rattle.executive.proofs.Numbers.{ones-bits, low-first, sub-first}
+use Rattle.demands.specs.Instance.{goesOn, localRow, sending, receiving, instructionOf, published}
 
 -- ---- a row is a SEND, a RECV or another, and so is its instruction
 
 pub data Kind (r : Row) : Instruction Agent → Type 0 where
   sends : r .op ≡ 0x20 → Kind r (sending r)
   receives : r .op ≡ 0x30 → Kind r (receiving r)
-  others : r .op ≢ 0x20 → r .op ≢ 0x30 → Kind r (local (after r Nothing))
+  others : r .op ≢ 0x20 → r .op ≢ 0x30 → Kind r (local (localRow r))
 
 pub kind : (r : Row) → Kind r (instructionOf r)
 unfolding instructionOf
 kind r = go (eqb (r .op) 0x20) (eqb (r .op) 0x30) refl refl
   where
     go : (b c : Bool) → eqb (r .op) 0x20 ≡ b → eqb (r .op) 0x30 ≡ c
-        → Kind r (cond b (sending r) (cond c (receiving r) (local (after r Nothing))))
+        → Kind r (cond b (sending r) (cond c (receiving r) (local (localRow r))))
     go true c d e = sends (eqb-true (r .op) 0x20 d)
     go false true d e = receives (eqb-true (r .op) 0x30 e)
     go false false d e = others (eqb-false (r .op) 0x20 d) (eqb-false (r .op) 0x30 e)
@@ -74,13 +77,25 @@ pub after-other : (r : Row) (m : Best) (s : Agent) → r .op ≢ 0x30 → after 
 unfolding after
 after-other r m s other = rw (ne-eqb (r .op) 0x30 other)
 
+-- A local row of the model does what the executive's row does.
+skips : (b : Bool) (n : ℕ) (s : Agent) → cond b (goesOn n s) (goesOn 0 s) ≡ goTo (s .pos + 1 + cond b n 0) s
+skips true n s = refl
+skips false n s = refl
+
+pub local-is-after : (r : Row) (s : Agent) → r .op ≢ 0x30 → localRow r s ≡ after r Nothing s
+unfolding localRow after
+local-is-after r s other =
+    let x = getD (s .regs) (r .x) 0 in
+    let y = getD (s .regs) (r .y) 0 in
+    let on : s .pos + 1 + 0 ≡ s .pos + 1 = add-zero (s .pos + 1) in
+    rw (sub-first x y, ones-bits y, low-first y, skips (eqb x 0) (r .n) s, ne-eqb (r .op) 0x30 other, on)
+
 module _ (T : List ℕ) (a : ℕ) (s : Agent) (msgs : Messages) where
   effect-kind : {r : Row} {i : Instruction Agent} (m : Best) → Kind r i → execIns (published T) a s msgs (valueOf m) i .0 ≡ after r m s
-  unfolding after takes
-  effect-kind m (sends op) = rw (after, op)
-  effect-kind {r} Nothing (receives op) = rw (after, op)
-  effect-kind {r} (Message l b i v) (receives op) = rw (after, op)
-  effect-kind {r} m (others p q) = after-other r m s q
+  effect-kind {r} m (sends op) = ap (λ (p : ℕ). goTo p s) (add-zero (s .pos + 1)) ∙ sym (send-is-on r m s op)
+  effect-kind {r} Nothing (receives op) = sym (receive-none r Nothing s op refl)
+  effect-kind {r} (Message l b i v) (receives op) = sym (receive-found l b i v r (Message l b i v) s op refl)
+  effect-kind {r} m (others p q) = local-is-after r s q ∙ after-other r m s q
 
   pub effect : (r : Row) (m : Best) → execIns (published T) a s msgs (valueOf m) (instructionOf r) .0 ≡ after r m s
   effect r m = effect-kind m (kind r)
@@ -102,7 +117,7 @@ module _ (T : List ℕ) (a : ℕ) (s : Agent) (msgs : Messages) where
   on-kind got (sends op) = (omega arith, omega arith)
   on-kind none (receives op) = (omega arith, omega arith)
   on-kind (some v) (receives op) = (omega arith, omega arith)
-  on-kind {r} got (others p q) = after-on r Nothing s
+  on-kind {r} got (others p q) = rw (local-is-after r s q) (after-on r Nothing s)
 
   pub goes-on : (r : Row) (got : Option ℕ)
       → let s′ = execIns (published T) a s msgs got (instructionOf r) .0 in (s .pos < s′ .pos) × (s′ .pos ≤ s .pos + 1 + r .n)

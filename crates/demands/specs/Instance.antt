@@ -2,32 +2,70 @@
 use mathlib.Core.Bool.{Bool, cond, _&&_}
 use mathlib.Core.Option.{Option, none, some}
 use mathlib.Core.List.{List}
-use Prim.Native.Nat.{ℕ, _+_}
+use Prim.Native.Nat.{ℕ, _+_, _%_, _^_}
 use lib.Dec.{ltb, leb, eqb}
-use lib.ListN.{getD, take, drop}
+use lib.ListN.{getD, set, take, drop}
 use Rattle.pharos.specs.Published.{Instruction, local, send, receive, Dated, exact, Messages, Types, SystemState}
 use Rattle.tables.specs.Layout.{agents, rows, row, startPlace}
 use Rattle.tables.specs.declared.Row.{Row}
 use Rattle.choices.specs.declared.Agent.{Agent}
-use Rattle.choices.specs.declared.Best.the-variants.{Nothing}
 use Rattle.choices.specs.State.{clock, mark, value, agentAt}
-use Rattle.choices.specs.Effect.{goTo, put, after}
+use Rattle.executive.specs.Numbers.{bit, bits, firstBelow}
 
--- SEND x, k: "the value of x is sent under message number k", and on at p+1
+-- ---- 01's table of rows, its last column, in words of the model's own: nothing of the executive's `after` is named here
+
+-- what register x of an agent holds
+abbrev pub holds : Agent → ℕ → ℕ
+holds s x = getD (s .regs) x 0
+
+-- "x becomes" v, and "All rows but SKIP, JUMP and an empty RECV go on at p+1"
+abbrev pub becomes : (x v : ℕ) → Agent → Agent
+becomes x v s = record { pos = s .pos + 1; regs = set (s .regs) x v }
+
+-- "go on at p+1+n", the registers as they are
+abbrev pub goesOn : (n : ℕ) → Agent → Agent
+goesOn n s = record { pos = s .pos + 1 + n; regs = s .regs }
+
+-- "x-y modulo 2^32": the number below 2^32 that, with y added, is x modulo 2^32
+abbrev pub minus : (x y : ℕ) → ℕ
+minus x y = firstBelow (2 ^ 32) (λ v. eqb ((v + y) % 2 ^ 32) (x % 2 ^ 32))
+
+-- "the number of one bits in y": the sum of its 32 bits
+abbrev pub ones : ℕ → ℕ
+ones y = bits y 32
+
+-- "the number of zero bits below the lowest one bit of y; 32 where y is 0": the place of the first bit that is 1
+abbrev pub lowest : ℕ → ℕ
+lowest y = firstBelow 32 (λ i. eqb (bit y i) 1)
+
+-- the rows that touch their agent alone
+unfoldable pub localRow : Row → Agent → Agent
+localRow r s =
+    let x = holds s (r .x) in
+    let y = holds s (r .y) in
+    cond (eqb (r .op) 0x00) (becomes (r .x) (r .k) s)  -- SET x, k
+    (cond (eqb (r .op) 0x01) (becomes (r .x) ((x + y) % 2 ^ 32) s)  -- ADD x, y
+    (cond (eqb (r .op) 0x02) (becomes (r .x) (minus x y) s)  -- SUB x, y
+    (cond (eqb (r .op) 0x03) (becomes (r .x) (ones y) s)  -- ONES x, y
+    (cond (eqb (r .op) 0x04) (becomes (r .x) (lowest y) s)  -- LOW x, y
+    (cond (eqb (r .op) 0x10) (cond (eqb x 0) (goesOn (r .n) s) (goesOn 0 s))  -- SKIP x, n: "where x is 0 go on at p+1+n, else at p+1"
+    (cond (eqb (r .op) 0x11) (goesOn (r .n) s)  -- JUMP n
+    (goesOn 0 s)))))))  -- no table that is accepted has another
+
+-- SEND x, k: "the value of x is sent under message number k"
 abbrev pub sending : Row → Instruction Agent
-sending r = send (r .k) (λ s. getD (s .regs) (r .x) 0) (λ s. goTo (s .pos + 1) s)
+sending r = send (r .k) (λ s. holds s (r .x)) (goesOn 0)
 
 -- RECV x, k, n: "message found: x becomes its value, on at p+1; none: x stays, on at p+1+n"
 abbrev pub taken : Row → Option ℕ → Agent → Agent
-taken r none s = goTo (s .pos + 1 + r .n) s
-taken r (some v) s = put (r .x) v s
+taken r none s = goesOn (r .n) s
+taken r (some v) s = becomes (r .x) v s
 
 abbrev pub receiving : Row → Instruction Agent
 receiving r = receive (r .k) (taken r)
 
--- Every other row is local, with the effect that 01's table of rows gives it.
 unfoldable pub instructionOf : Row → Instruction Agent
-instructionOf r = cond (eqb (r .op) 0x20) (sending r) (cond (eqb (r .op) 0x30) (receiving r) (local (after r Nothing)))
+instructionOf r = cond (eqb (r .op) 0x20) (sending r) (cond (eqb (r .op) 0x30) (receiving r) (local (localRow r)))
 
 abbrev pub dated : Row → Dated Agent
 dated r = record { ins = instructionOf r; early = r .early; late = r .late }
