@@ -6,7 +6,7 @@ use Prim.Native.Nat.{ℕ, _<_}
 use native.Mathlib.Omega.{arith}
 use lib.Dec.{leb}
 use borrow.Author.Tests.{le-leb}
-use Rattle.pharos.specs.Behaviours.{determinacy, same-ends}
+use Rattle.pharos.proofs.Behaviours.{determinacy, behaviours-end-alike}
 use Rattle.tables.specs.Layout.{agents, rows}
 use Rattle.choices.specs.State.{pos}
 use Rattle.executive.specs.Run.{runFrom}
@@ -37,5 +37,5 @@ same-ends-from tb st cs ds table state end end′ =
     let out′ = runFrom tb st 0 ds .state in
     let x = run-is-models tb st cs table state in
     let y = run-is-models tb st ds table state in
-    let (states, messages) = same-ends (published tb) (assumed tb (table .good)) (x .behaviour) (y .behaviour) (all-ended tb out table end) (all-ended tb out′ table end′) in
+    let (states, messages) = behaviours-end-alike (published tb) (assumed tb (table .good)) (x .behaviour) (y .behaviour) (all-ended tb out table end) (all-ended tb out′ table end′) in
     same-past-clock tb out out′ (fits-says tb out (x .state .fit)) (fits-says tb out′ (y .state .fit)) (x .state .long) (y .state .long) states messages

@@ -4,7 +4,7 @@ use mathlib.Core.List.{List}
 use mathlib.Core.Logic.{_⊎_}
 use Prim.Native.Nat.{ℕ, _≤_, _<_}
 use lib.ListN.{length, drop}
-use Rattle.pharos.specs.Tail.{Prefix}
+use Rattle.pharos.specs.Prefix.{Prefix}
 use Rattle.tables.specs.Layout.{agents, rows}
 use Rattle.choices.specs.declared.Agent.{Agent}
 use Rattle.choices.specs.State.{pos, stateWords}

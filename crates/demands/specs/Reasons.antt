@@ -8,7 +8,7 @@ use Prim.Native.Nat.{ℕ, _≤_, _<_}
 use native.Mathlib.Decide.{decLt}
 use native.Mathlib.Omega.{arith}
 use Rattle.pharos.specs.Published.{Types, instrOf, SystemState, GoodNextTime, except, exec, executes}
-use Rattle.pharos.specs.Search.{receives}
+use Rattle.pharos.proofs.Search.{receives}
 
 infix 20 _⇒_
 -- a reason against a choice, and the number of the reply that it calls for

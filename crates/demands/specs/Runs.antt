@@ -6,7 +6,7 @@ use mathlib.Core.Logic.{_≢_}
 use Prim.Native.Nat.{ℕ, zero, suc, _*_, _<_}
 use lib.Dec.{eqb}
 use lib.ListN.{take, drop, getD}
-use Rattle.pharos.specs.Published.{Types, SystemState, Behaviour, first, append, filter}
+use Rattle.pharos.specs.Published.{Types, SystemState, Behaviour, no-steps, append, filter}
 use Rattle.tables.specs.Layout.{agents}
 use Rattle.choices.specs.declared.Agent.{Agent}
 use Rattle.choices.specs.State.{agentAt, startWords}
@@ -29,7 +29,7 @@ passed run cs b = agentAt (run [] .state) b ∷ comesTo run cs b (run cs .count)
 module _ {T : Types} where
   -- the number of a behaviour's steps
   abbrev pub stepsOf : {g h : SystemState T} → Behaviour T g h → ℕ
-  stepsOf first = 0
+  stepsOf no-steps = 0
   stepsOf (append r step) = suc (stepsOf r)
 
   -- Why a run stops in the state g, with the words that are left, and its reply: at the end, or at a choice against which the model has a reason.
