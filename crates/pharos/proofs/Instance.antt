@@ -32,7 +32,7 @@ module _ (T : Types) where
   sends b u x = sendIns u x (instrOf T b u .ins)
 
   -- The pool after a step: the agent's own part has changed, and no other.
-  pool : (a : ℕ) (s : State) (msgs : Messages) (got : Option ℕ) → exec T a s msgs got .1 ≡ except msgs a (sends a s (msgs a))
+  pub pool : (a : ℕ) (s : State) (msgs : Messages) (got : Option ℕ) → exec T a s msgs got .1 ≡ except msgs a (sends a s (msgs a))
   pool a s msgs got = go (instrOf T a s .ins)
     where
       unchanged : msgs ≡ except msgs a (msgs a)

@@ -11,6 +11,7 @@ pub mod Coded
 pub mod Instance
 pub mod Behaviours
 pub mod GoodStates
+pub mod Invariants
 pub mod Filter
 pub mod Decoded
 -- What weaker rules would allow.

@@ -67,8 +67,13 @@ module _ (T : Types) where
     pub row : place state ≡ i
     pub sends : valueSent (instrOf T b state .ins) state ≡ some v
 
+  -- m ∈ expired
+  pub record Expired {g h : SystemState T} (r : Behaviour T g h) (b i v : ℕ) : Type 0 where
+    pub to-send : ToSend r b i v
+    pub passed : Types.instrAt T b i .late < h .t
+
   -- MsgInv: messages ⊆ toSend, and expired ⊆ messages. 01: of two sends of one row the later stays in the pool, so the value need not be the same;
   -- where each step takes its agent to a later row there are no two, and it is.
   pub record MsgInv {g h : SystemState T} (r : Behaviour T g h) : Type 0 where
     pub sent : (b i v : ℕ) → h .msgs b i ≡ some v → ToSend r b i v
-    pub expired : (b i v : ℕ) → ToSend r b i v → Types.instrAt T b i .late < h .t → (w : ℕ) × (h .msgs b i ≡ some w) × (Raises → w ≡ v)
+    pub expired : (b i v : ℕ) → Expired r b i v → (w : ℕ) × (h .msgs b i ≡ some w) × (Raises → w ≡ v)
