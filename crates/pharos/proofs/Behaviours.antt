@@ -1,9 +1,8 @@
 -- Determinacy of the published model: a corollary, since its steps are the abstract model's.
 use mathlib.Core.Path.{_≡_, refl, ap, sym, subst, subst₂, _∙_, fun-ext}
-use mathlib.Core.Bool.{true}
 use mathlib.Core.List.{List, [], _∷_, _++_, map, reverse}
-use mathlib.Core.Logic.{_⊎_, ite}
-use Prim.Native.Nat.{ℕ, _<_}
+use mathlib.Core.Logic.{ite}
+use Prim.Native.Nat.{ℕ}
 use native.Mathlib.Decide.{ℕ-discrete}
 use Rattle.pharos.specs.Published.{Types, SystemState, Assumptions, Behaviour, no-steps, append, filter}
 use Rattle.pharos.specs.Prefix.{OneBegins}

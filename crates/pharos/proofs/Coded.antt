@@ -73,10 +73,12 @@ module _ {M : Model} (C : Coded M) where
   pub cut : Cut C
   unfolding walk whole
   cut [] ds w e = refl
-  cut (c ∷ cs) ds w e = go (accepts w (c .0) (c .1)) e (λ e. cut cs ds (move w (c .0) (c .1)) e)
+  cut (c ∷ cs) ds w e = go (accepts w (c .0) (c .1)) refl (λ e. cut cs ds (move w (c .0) (c .1)) e)
     where
-      go : (y : Bool) → elim y [ true ↦ whole C (move w (c .0) (c .1)) cs | false ↦ false ] ≡ true
-          → (whole C (move w (c .0) (c .1)) cs ≡ true → walk C (move w (c .0) (c .1)) (cs ++ ds) ≡ walk C (walk C (move w (c .0) (c .1)) cs) ds)
-          → elim y [ true ↦ walk C (move w (c .0) (c .1)) (cs ++ ds) | false ↦ w ] ≡ walk C (elim y [ true ↦ walk C (move w (c .0) (c .1)) cs | false ↦ w ]) ds
-      go true e rest = rest e
-      go false e rest = absurd (true≢false (sym e))
+      rest : Words
+      rest = move w (c .0) (c .1)
+
+      go : (y : Bool) → accepts w (c .0) (c .1) ≡ y → (whole C rest cs ≡ true → walk C rest (cs ++ ds) ≡ walk C (walk C rest cs) ds)
+          → walk C w (c ∷ (cs ++ ds)) ≡ walk C (walk C w (c ∷ cs)) ds
+      go true y next = rw (walk, y) (next (rw (whole, y) at e))
+      go false y next = absurd (true≢false (sym (rw (whole, y) at e)))

@@ -1,8 +1,7 @@
 -- Completion: where each step brings an agent nearer to its end, every way of going on ends every agent in a bounded number of steps.
-use mathlib.Core.Path.{_≡_, refl, subst}
-use mathlib.Core.Bool.{false}
+use mathlib.Core.Path.{refl, subst}
 use mathlib.Core.Logic.{⊎-elim, if-pos}
-use Prim.Native.Nat.{ℕ, zero, suc, _+_, _≤_, _<_}
+use Prim.Native.Nat.{ℕ, zero, suc, _≤_, _<_}
 use native.Mathlib.Nat.{eq-or-lt-of-le, le-of-suc-le-suc}
 use native.Mathlib.Decide.{ℕ-discrete}
 use native.Mathlib.Omega.{arith}
@@ -26,7 +25,7 @@ module _ (f g : ℕ → ℕ) (le : (b : ℕ) → f b ≤ g b) where
       (eq-or-lt-of-le (le-of-suc-le-suc l))
 
 module _ {M : Model} where
-  open Model M using (State, agents, ended, late, next)
+  open Model M using (State, agents, ended, late)
 
   pub stops-ended : {g h : System M} → StopsEnded M g h
   stops-ended {h = h} windows r ready stuck =

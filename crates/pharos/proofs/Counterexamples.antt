@@ -104,7 +104,7 @@ module _ (visible : Dated Local → Dated Local → Bool) (e : ℕ) (meet : e �
   }
 
 pub shown-differs : ShownDiffers
-shown-differs = differs
+shown-differs visible e meet shown = differs visible e (omega arith) shown
 
 pub touching-differs : TouchingDiffers
 touching-differs = shown-differs (λ di dj. leb (di .late) (dj .early)) 3 (omega arith) refl

@@ -8,11 +8,11 @@ use native.Mathlib.Decide.{ℕ-discrete, decLt}
 use native.Mathlib.Omega.{arith}
 use Rattle.pharos.specs.Prefix.{_⊑_, same, more, Comparable}
 use Rattle.pharos.specs.Model.{Model, Agent, System, slices, Live, Good, stepped, step, Run, start, _▸_, past, trace}
-use Rattle.pharos.specs.Runs.{course, Ended, LocalDeterminacy, DeterminacyOfTraces, SameViews, DeterminacyOfCourses, RunsEndAlike, SameTraces}
+use Rattle.pharos.specs.Runs.{course, LocalDeterminacy, DeterminacyOfTraces, SameViews, DeterminacyOfCourses, RunsEndAlike, SameTraces}
 use Rattle.pharos.proofs.Tail.{split, top, not-below, both, prefix, map-⊑}
 
 module _ {M : Model} where
-  open Model M using (agents, ended, early, late, seen, next, post, sees, forward, keeps)
+  open Model M using (agents, ended, early, late, seen, sees, forward, keeps)
 
   pub local-determinacy : LocalDeterminacy M
   local-determinacy g h a e real live views = cc (sees a (g .agent a .state) real live (slices g) (slices h) views)

@@ -1,8 +1,8 @@
 -- 002's filter is unstutter[project(history, a)]. Where each step raises the position, that is `filter` of the published model.
 use mathlib.Core.Path.{_≡_, refl, ap, sym, _∙_}
-use mathlib.Core.List.{List, [], _∷_, _++_, map, reverse, reverse-cons}
+use mathlib.Core.List.{List, [], _∷_, _++_, reverse, reverse-cons}
 use mathlib.Core.Logic.{ite}
-use Prim.Native.Nat.{ℕ, _<_}
+use Prim.Native.Nat.{ℕ}
 use native.Mathlib.Decide.{ℕ-discrete}
 use native.Mathlib.Omega.{arith}
 use Rattle.pharos.specs.Published.{Types, SystemState, exec, Behaviour, no-steps, append, filter}

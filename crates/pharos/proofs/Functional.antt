@@ -5,8 +5,8 @@ use mathlib.Core.Logic.{_⊎_, inl, inr, ⊎-elim, by-cases, if-pos}
 use Prim.Native.Nat.{ℕ, _<_}
 use native.Mathlib.Decide.{decLt, ℕ-discrete}
 use native.Mathlib.Omega.{arith}
-use Rattle.pharos.specs.Published.{Instruction, local, send, receive, Messages, Dated, Types, instrOf, except, SystemState, CanReceive, Before, later, lower, higher, Received, nothing, found, execIns, exec, executes}
-use Rattle.pharos.specs.Theorems.{ReceivedOnce, InitOnce, ExecutesOnce, ReceivesNoMore, OwnStep}
+use Rattle.pharos.specs.Published.{Instruction, local, send, receive, Messages, Dated, Types, instrOf, except, SystemState, CanReceive, Before, later, lower, higher, Received, nothing, found, execIns, exec}
+use Rattle.pharos.specs.Theorems.{ReceivedOnce, InitOnce, ExecutesOnce, OwnStep}
 
 less-or-more : {C : Type 0} (m n : ℕ) → (m < n → C) → (n < m → C) → (m ≡ n → C) → C
 less-or-more m n less more same = by-cases (decLt m n) less (λ p. by-cases (decLt n m) more (λ q. same (omega arith)))

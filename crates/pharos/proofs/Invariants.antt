@@ -1,7 +1,7 @@
 -- 002's Inv and MsgInv, of every behaviour from the start.
 use mathlib.Core.Path.{_≡_, refl, ap, sym, subst, subst₂, _∙_}
 use mathlib.Core.Bool.{false}
-use mathlib.Core.Option.{Option, none, some, Option·none-ne-some}
+use mathlib.Core.Option.{some, Option·none-ne-some}
 use mathlib.Core.Logic.{_⊎_, inl, inr, ⊎-elim, ite}
 use Prim.Native.Nat.{ℕ, _≤_, _<_}
 use native.Mathlib.Decide.{ℕ-discrete}
@@ -14,7 +14,7 @@ use Rattle.pharos.proofs.Instance.{Sent, sendIns, sends, pool}
 use Rattle.pharos.proofs.GoodStates.{init-meets-deadlines, executes-meets-deadlines}
 
 module _ (T : Types) where
-  open Types T using (State, agents, ended, place)
+  open Types T using (State, ended, place)
 
   -- ---- Inv
 

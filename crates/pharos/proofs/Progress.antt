@@ -2,7 +2,7 @@
 use mathlib.Core.Path.{_≡_, refl, subst, sym, _∙_}
 use mathlib.Core.Bool.{Bool, true, false, true≢false}
 use mathlib.Core.Logic.{_⊎_, inl, inr, ⊎-elim, by-cases}
-use Prim.Native.Nat.{ℕ, zero, suc, max, _≤_, _<_}
+use Prim.Native.Nat.{ℕ, zero, suc, _≤_, _<_}
 use native.Mathlib.Nat.{eq-or-lt-of-le, le-of-suc-le-suc}
 use native.Mathlib.Decide.{decLe}
 use native.Mathlib.Omega.{arith}
@@ -35,7 +35,7 @@ module _ (done : ℕ → Bool) (value : ℕ → ℕ) where
           (λ gt. inr (n, omega arith, e, below-suc (P n) (λ b l live. omega (arith, low b l live)) (λ _. omega arith)))
 
 module _ {M : Model} where
-  open Model M using (State, agents, ended, early, late, forward)
+  open Model M using (agents, ended, early, late, forward)
 
   -- An agent that may step at some time may step at the soonest.
   pub sooner : {g : System M} {a t : ℕ} → Good g a t → Good g a (soonest g a)
