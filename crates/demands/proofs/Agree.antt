@@ -20,7 +20,8 @@ use Rattle.traces.specs.Input.{tableText}
 use Rattle.traces.proofs.Parts.{read-told, read-table}
 use Rattle.demands.specs.Demand2.{Table, Fitting}
 use Rattle.demands.specs.Steps.{Step, stepsFrom, comesTo, lastOf}
-use Rattle.demands.specs.Demand3.{OneBegins, AllEnded}
+use Rattle.pharos.specs.Prefix.{OneBegins}
+use Rattle.demands.specs.Demand3.{AllEnded}
 use Rattle.demands.specs.Traces.{traceSteps, choicesOfInput, shows, lastPosition, AcceptedText, wordsOf, ShowsEnds, TracesAgree, TracesEndAlike}
 use Rattle.demands.proofs.Demand2.{start-is-models}
 use Rattle.demands.proofs.Demand3.{deterministic-from, same-courses-from}

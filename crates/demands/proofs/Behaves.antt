@@ -10,7 +10,7 @@ use native.Mathlib.Omega.{arith}
 use lib.Dec.{eqb}
 use lib.ListN.{take, drop}
 use borrow.Author.Tests.{eq-eqb, ne-eqb}
-use Rattle.pharos.specs.Published.{SystemState, Behaviour, first, append, filter}
+use Rattle.pharos.specs.Published.{SystemState, Behaviour, no-steps, append, filter}
 use Rattle.tables.proofs.Good.{few}
 use Rattle.choices.specs.declared.Agent.{Agent}
 use Rattle.choices.specs.State.{agentAt}
@@ -98,7 +98,7 @@ module _ (tb : List ℕ) (table : Table tb) where
 pub run-is-models : RunIsModels
 unfolding runFrom
 run-is-models tb st cs table state =
-    let x = goes tb table cs st 0 state {g = decode tb st} first in
+    let x = goes tb table cs st 0 state {g = decode tb st} no-steps in
     let count : runFrom tb st 0 cs .count ≡ x .steps = x .counted ∙ zero-add _ in
     record {
       state = x .state;

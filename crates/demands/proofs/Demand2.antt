@@ -6,7 +6,7 @@ use native.Mathlib.Decide.{decLt}
 use native.Mathlib.Omega.{arith}
 use lib.ListN.{length, take, drop}
 use Rattle.pharos.specs.Published.{SystemState, executes}
-use Rattle.pharos.specs.Functional.{executes-once}
+use Rattle.pharos.proofs.Functional.{executes-once}
 use Rattle.tables.specs.Layout.{startPlace}
 use Rattle.choices.specs.State.{pos, startWords, posPlace, regPlace, markPlace}
 use Rattle.choices.specs.Step.{choiceReply, accepted, Allowed as Accepts}

@@ -6,7 +6,7 @@ use Prim.Native.Nat.{ℕ, _<_}
 use native.Mathlib.Omega.{arith}
 use lib.Dec.{leb}
 use borrow.Author.Tests.{le-leb}
-use Rattle.pharos.specs.Behaviours.{determinacy, same-ends, same-courses}
+use Rattle.pharos.proofs.Behaviours.{determinacy, behaviours-end-alike, same-courses}
 use Rattle.tables.specs.Layout.{agents, rows}
 use Rattle.choices.specs.State.{pos}
 use Rattle.executive.specs.Run.{runFrom}
@@ -14,8 +14,9 @@ use Rattle.tables.proofs.Good.{few}
 use Rattle.executive.proofs.Fitting.{fits-says}
 use Rattle.demands.specs.Instance.{published, stateOf}
 use Rattle.demands.specs.Demand2.{Table}
-use Rattle.demands.specs.Demand3.{OneBegins, DeterministicFrom, AllEnded, SameEndsFrom, SameCourses}
-use Rattle.demands.proofs.Assumed.{assumed}
+use Rattle.pharos.specs.Prefix.{OneBegins}
+use Rattle.demands.specs.Demand3.{DeterministicFrom, AllEnded, SameEndsFrom, SameCourses}
+use Rattle.demands.proofs.Assumed.{assumptions-hold}
 use Rattle.demands.proofs.Decode.{state-low, same-past-clock}
 use Rattle.demands.proofs.Behaves.{run-is-models}
 
@@ -23,7 +24,7 @@ pub deterministic-from : DeterministicFrom
 deterministic-from tb st cs ds table state b h =
     let x = run-is-models tb st cs table state in
     let y = run-is-models tb st ds table state in
-    subst₂ OneBegins (x .filtered b h) (y .filtered b h) (determinacy (published tb) (assumed tb (table .good)) (x .behaviour) (y .behaviour) b)
+    subst₂ OneBegins (x .filtered b h) (y .filtered b h) (determinacy (published tb) (assumptions-hold tb table) (x .behaviour) (y .behaviour) b)
 
 -- an agent whose position is its row count has ended
 all-ended : (tb st : List ℕ) → Table tb → AllEnded tb st → (b : ℕ) → b < agents tb → leb (rows tb b) (stateOf tb st b .pos) ≡ true
@@ -37,7 +38,7 @@ same-ends-from tb st cs ds table state end end′ =
     let out′ = runFrom tb st 0 ds .state in
     let x = run-is-models tb st cs table state in
     let y = run-is-models tb st ds table state in
-    let (states, messages) = same-ends (published tb) (assumed tb (table .good)) (x .behaviour) (y .behaviour) (all-ended tb out table end) (all-ended tb out′ table end′) in
+    let (states, messages) = behaviours-end-alike (published tb) (assumptions-hold tb table) (x .behaviour) (y .behaviour) (all-ended tb out table end) (all-ended tb out′ table end′) in
     same-past-clock tb out out′ (fits-says tb out (x .state .fit)) (fits-says tb out′ (y .state .fit)) (x .state .long) (y .state .long) states messages
 
 pub same-courses-from : SameCourses
@@ -47,5 +48,5 @@ same-courses-from tb st cs ds table state end end′ b h =
     let x = run-is-models tb st cs table state in
     let y = run-is-models tb st ds table state in
     sym (x .filtered b h)
-    ∙ same-courses (published tb) (assumed tb (table .good)) (x .behaviour) (y .behaviour) (all-ended tb out table end) (all-ended tb out′ table end′) b
+    ∙ same-courses (published tb) (assumptions-hold tb table) (x .behaviour) (y .behaviour) (all-ended tb out table end) (all-ended tb out′ table end′) b
     ∙ y .filtered b h

@@ -25,7 +25,8 @@ use Rattle.executive.proofs.OneByOne.{ran}
 use Rattle.demands.specs.Demand2.{Table, Fitting}
 use Rattle.demands.specs.Steps.{Step, stepsFrom, comesTo, passed, begun, stepsInRun, agentsAndTimes, lastOf, RunMakes}
 use Rattle.demands.specs.Runs.{withoutPast, Behaves, RunCallIsModels}
-use Rattle.demands.specs.Demand3.{OneBegins, Deterministic, AllEnded, SameEnds}
+use Rattle.pharos.specs.Prefix.{OneBegins}
+use Rattle.demands.specs.Demand3.{Deterministic, AllEnded, SameEnds}
 use Rattle.demands.proofs.Demand2.{start-is-models}
 use Rattle.demands.proofs.Made.{steps-counted, steps-chosen, steps-each, steps-last, chosen-low}
 use Rattle.demands.proofs.Behaves.{run-is-models}

@@ -1,10 +1,11 @@
+pub mod Allowed
 pub mod Rows
-pub mod Assumed
 pub mod Decode
 pub mod Received
 pub mod Step
 pub mod Reasons
 pub mod Demand2
+pub mod Assumed
 pub mod Made
 pub mod Behaves
 pub mod Call

@@ -24,7 +24,8 @@ use Rattle.choices.specs.Step.{accepted, Allowed as Accepts}
 use Rattle.tables.proofs.Good.{few, few-rows}
 use Rattle.executive.proofs.Fitting.{Fits}
 use Rattle.choices.proofs.After.{next, accepted-clock, accepted-self, accepted-agent-other, sent-own-mark, sent-own-value, mark-away, value-away, mark-unsent, value-unsent}
-use Rattle.demands.specs.Reasons.{ModelAllows, allowed}
+use Rattle.demands.specs.Reasons.{ModelAllows}
+use Rattle.demands.proofs.Allowed.{allowed}
 use Rattle.demands.specs.Instance.{published, dated, stateOf, sentOf, decode}
 use Rattle.demands.proofs.Rows.{valueOf, effect, posted, after-other}
 use Rattle.demands.proofs.Decode.{state-low, state-high, sent-some, sent-same}

@@ -1,21 +1,15 @@
 -- Demand 3: the executive is deterministic. The statements; proofs/Demand3 proves them of any state that fits, proofs/Lent of the public call.
 use mathlib.Core.Path.{_≡_}
 use mathlib.Core.List.{List}
-use mathlib.Core.Logic.{_⊎_}
 use Prim.Native.Nat.{ℕ, _<_}
 use lib.ListN.{drop}
-use Rattle.pharos.specs.Tail.{Prefix}
+use Rattle.pharos.specs.Prefix.{OneBegins}
 use Rattle.tables.specs.Layout.{agents, rows}
-use Rattle.choices.specs.declared.Agent.{Agent}
 use Rattle.choices.specs.State.{pos}
 use Rattle.executive.specs.Run.{runFrom}
 use Rattle.executive.specs.Calls.{statePart, runRefusal, runInto}
 use Rattle.demands.specs.Demand2.{Table, Fitting}
 use Rattle.demands.specs.Steps.{passed, passedInRun}
-
--- one of two lists of states begins the other
-abbrev pub OneBegins : List Agent → List Agent → Type 0
-OneBegins h k = Prefix h k ⊎ Prefix k h
 
 -- For one table and any two lists of choices, the states that an agent passes through in one run begin those in the other, whatever lent words the runs are made in.
 -- A run that is refused before it begins has no accepted step, and neither has one that is refused at its first choice.

@@ -2,6 +2,7 @@
 pub mod Reasons
 pub mod Instance
 pub mod Demand2
+pub mod Assumed
 pub mod Steps
 pub mod Runs
 pub mod Cases

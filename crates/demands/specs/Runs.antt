@@ -4,7 +4,7 @@ use mathlib.Core.List.{List, [], _∷_, _++_}
 use mathlib.Core.Logic.{_≢_}
 use Prim.Native.Nat.{ℕ, suc, _*_, _<_}
 use lib.ListN.{take, drop}
-use Rattle.pharos.specs.Published.{Types, SystemState, Behaviour, first, append, filter}
+use Rattle.pharos.specs.Published.{Types, SystemState, Behaviour, no-steps, append, filter}
 use Rattle.tables.specs.Layout.{agents}
 use Rattle.choices.specs.State.{startWords}
 use Rattle.executive.specs.Run.{RunOutcome, ended, runFrom}
@@ -17,11 +17,11 @@ use Rattle.demands.specs.Steps.{passed}
 module _ {T : Types} where
   -- the number of a behaviour's steps; and the agent and the time of each, the oldest first
   abbrev pub countOf : {g h : SystemState T} → Behaviour T g h → ℕ
-  countOf first = 0
+  countOf no-steps = 0
   countOf (append r step) = suc (countOf r)
 
   abbrev pub choicesOf : {g h : SystemState T} → Behaviour T g h → List ℕ
-  choicesOf first = []
+  choicesOf no-steps = []
   choicesOf (append {f = f} {a} r step) = choicesOf r ++ (a ∷ f .t ∷ [])
 
   -- Why a run stops in the state g, with the words that are left, and its reply: at the end, or at a choice against which the model has a reason.

@@ -16,7 +16,7 @@ use Rattle.traces.specs.Input.{longestInput, tableText, choiceLines, badChoiceO
 use Rattle.traces.specs.Output.{stepLine, lastLine}
 use Rattle.traces.specs.Calls.{TraceOutcome, longestOutput, traceInto}
 use Rattle.demands.specs.Steps.{Step, step, comesTo, stepsInRun, lastOf}
-use Rattle.demands.specs.Demand3.{OneBegins}
+use Rattle.pharos.specs.Prefix.{OneBegins}
 
 -- ---- what an output shows: the parse that tools/compare makes
 

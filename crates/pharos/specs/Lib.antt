@@ -1,19 +1,12 @@
--- The model of document 002 (PharOS), and what is proved of it.
+-- What a reader of this crate must believe, lowest first. The model of document 002 (PharOS), and what is proved of it.
+pub mod Prefix
 pub mod Published
-pub mod Functional
-pub mod Search
--- Lists that grow, and the abstract model with its theorems.
-pub mod Tail
+pub mod Histories
+pub mod Theorems
+-- The abstract model, and what is proved of it.
 pub mod Model
-pub mod Determinacy
-pub mod Progress
-pub mod Completion
+pub mod Runs
 pub mod Coded
--- The published model is an instance of the abstract one.
-pub mod Instance
-pub mod Behaviours
-pub mod GoodStates
-pub mod Filter
 pub mod Decoded
 -- What weaker rules would allow.
 pub mod Counterexamples

@@ -126,7 +126,7 @@ module _ (T : Types) where
 
   -- The ASSUMEs instrOf_type, Update_monotonic and visible_cond.
   -- 01: the first two only of agents that there are and states that have not ended; of Update_monotonic only the late half, as the other is not used.
-  -- goodInitState follows from these (GoodStates), and TimeProgress has no place where tables are finite.
+  -- goodInitState follows from these (`InitGood`, Theorems), and TimeProgress has no place where tables are finite.
   pub record Assumptions : Type 0 where
     pub instrOf-type : (a : ℕ) (s : State) → a < agents → ended a s ≡ false → instrOf a s .early < instrOf a s .late
     pub Update-monotonic : (a : ℕ) (s : State) → a < agents → ended a s ≡ false → (msgs : Messages) (got : Option ℕ)
@@ -145,11 +145,11 @@ module _ (T : Types) where
 
   -- Spec, as far as it has come: steps of Next, one after another, from any state.
   pub data Behaviour (g : SystemState) : SystemState → Type 0 where
-    first : Behaviour g g
+    no-steps : Behaviour g g
     append : {h f : SystemState} {a : ℕ} → Behaviour g h → executes a h f → Behaviour g f
 
   -- filter(history, b): the states that agent b passes through, the oldest first.
-  -- 01: that at the start and that after each of its own steps. Each step raises the position, so unstutter takes out just the steps of others (Filter).
+  -- 01: that at the start and that after each of its own steps. Each step raises the position, so unstutter takes out just the steps of others (`FilterIs002's`, Theorems).
   abbrev pub filter : {g h : SystemState} → Behaviour g h → ℕ → List State
-  filter {g} first b = g .st b ∷ []
+  filter {g} no-steps b = g .st b ∷ []
   filter (append {f = f} {a} r step) b = ite (ℕ-discrete a b) (filter r b ++ (f .st b ∷ [])) (filter r b)

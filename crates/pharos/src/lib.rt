@@ -1,1 +1,1 @@
-// The model and its theorems stand in specs/: there is no code.
+// The model and its theorems stand in specs/ and are proved in proofs/: there is no code.

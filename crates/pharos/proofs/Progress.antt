@@ -2,12 +2,13 @@
 use mathlib.Core.Path.{_≡_, refl, subst, sym, _∙_}
 use mathlib.Core.Bool.{Bool, true, false, true≢false}
 use mathlib.Core.Logic.{_⊎_, inl, inr, ⊎-elim, by-cases}
-use Prim.Native.Nat.{ℕ, zero, suc, max, _≤_, _<_}
+use Prim.Native.Nat.{ℕ, zero, suc, _≤_, _<_}
 use native.Mathlib.Nat.{eq-or-lt-of-le, le-of-suc-le-suc}
 use native.Mathlib.Decide.{decLe}
 use native.Mathlib.Omega.{arith}
 use Rattle.pharos.specs.Model.{Model, System, slices, Live, Good, step, Run, start, _▸_}
-use Rattle.pharos.specs.Determinacy.{by-step}
+use Rattle.pharos.specs.Runs.{Ready, soonest, LeastMay, Progress, NoneToCome}
+use Rattle.pharos.proofs.Determinacy.{by-step}
 
 pub below-suc : (P : ℕ → Type 0) {n : ℕ} → ((k : ℕ) → k < n → P k) → P n → (k : ℕ) → k < suc n → P k
 below-suc P all here k l = ⊎-elim (λ e. subst P (sym e) here) (all k) (eq-or-lt-of-le (le-of-suc-le-suc l))
@@ -34,17 +35,9 @@ module _ (done : ℕ → Bool) (value : ℕ → ℕ) where
           (λ gt. inr (n, omega arith, e, below-suc (P n) (λ b l live. omega (arith, low b l live)) (λ _. omega arith)))
 
 module _ {M : Model} where
-  open Model M using (State, agents, ended, early, late, forward)
+  open Model M using (agents, ended, early, late, forward)
 
-  -- The clock has passed no window.
-  abbrev pub Ready : System M → Type 0
-  Ready g = (b : ℕ) → b < agents → Live b (g .agent b) → g .clock ≤ late b (g .agent b .state)
-
-  -- The earliest time at which an agent could step.
-  abbrev pub soonest : System M → ℕ → ℕ
-  soonest g a = max (g .clock) (early a (g .agent a .state))
-
-  -- An agent that may step at some time may step at that one.
+  -- An agent that may step at some time may step at the soonest.
   pub sooner : {g : System M} {a t : ℕ} → Good g a t → Good g a (soonest g a)
   sooner ok = record {
     real = ok .real;
@@ -54,11 +47,7 @@ module _ {M : Model} where
     fits = λ c real live. omega (arith, ok .after, ok .begun, ok .fits c real live);
   }
 
-  -- 4. While the clock has passed no window, an unfinished agent of least late may step.
-  pub least-may : (g : System M) → Ready g → ((a : ℕ) (s : State) → a < agents → ended a s ≡ false → early a s ≤ late a s)
-      → (a : ℕ) → a < agents → Live a (g .agent a)
-      → ((b : ℕ) → b < agents → Live b (g .agent b) → late a (g .agent a .state) ≤ late b (g .agent b .state))
-      → Good g a (soonest g a)
+  pub least-may : LeastMay M
   least-may g ready window a real alive low = record {
     real = real;
     live = alive;
@@ -67,9 +56,7 @@ module _ {M : Model} where
     fits = λ c real′ live. omega (arith, ready c real′ live, low c real′ live, window a (g .agent a .state) real alive);
   }
 
-  -- So some agent may, if any is unfinished.
-  pub progress : (g : System M) → Ready g → ((a : ℕ) (s : State) → a < agents → ended a s ≡ false → early a s ≤ late a s)
-      → (b : ℕ) → b < agents → Live b (g .agent b) → (a : ℕ) × (t : ℕ) × Good g a t
+  pub progress : Progress M
   progress g ready window b l live =
       ⊎-elim (λ none. absurd (true≢false (sym (none b l) ∙ live)))
       (λ (a, real, alive, low). (a, soonest g a, least-may g ready window a real alive low))
@@ -96,8 +83,6 @@ module _ {M : Model} where
       (λ mine live. omega (arith, past-run T r all b real (mine .live), forward b (h .agent b .state) real (mine .live) (slices h) live))
       (past-run T r all b real)
 
-  -- Once agent `a` may step, no agent comes to a window that closes before that of `a` opens.
-  pub none-to-come : {g h : System M} {a t : ℕ} → Good g a t → Run g h
-      → (b : ℕ) → b < agents → Live b (h .agent b) → early a (g .agent a .state) ≤ late b (h .agent b .state)
+  pub none-to-come : {g h : System M} {a t : ℕ} → NoneToCome M g h a t
   none-to-come {g} {a = a} {t} ok r b real live =
       past-run (early a (g .agent a .state)) r (λ c l alive. omega (arith, ok .begun, ok .fits c l alive)) b real live

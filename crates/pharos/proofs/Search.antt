@@ -7,8 +7,9 @@ use Prim.Native.Nat.{ℕ, zero, suc, _≤_, _<_}
 use native.Mathlib.Nat.{eq-or-lt-of-le, le-of-suc-le-suc}
 use native.Mathlib.Decide.{ℕ-discrete}
 use native.Mathlib.Omega.{arith}
-use Rattle.pharos.specs.Published.{msgSent, msgAwaited, Messages, Dated, Types, CanReceive, Before, later, lower, higher, Received, nothing, found}
-use Rattle.pharos.specs.Functional.{before-total}
+use Rattle.pharos.specs.Published.{msgSent, msgAwaited, Messages, Dated, Types, CanReceive, Before, later, lower, higher, nothing, found}
+use Rattle.pharos.specs.Theorems.{Receives}
+use Rattle.pharos.proofs.Functional.{before-total}
 
 module _ (T : Types) where
   pub before-trans : {b i c j d k : ℕ} → Before T b i c j → Before T c j d k → Before T b i d k
@@ -87,10 +88,9 @@ module _ (T : Types) (msgs : Messages) (di : Dated (Types.State T)) where
       join (λ c j (k, h). ⊎-elim (λ e. inr (sym e, subst (λ c. j < rows c) e h)) (λ k. inl (k, h)) (eq-or-lt-of-le (le-of-suc-le-suc k)))
       (all-up-to n (omega arith)) (up-to n (rows n) (omega arith) (omega arith))
 
-  -- What a receive gets.
-  pub receives : (o : Option ℕ) × Received T msgs di o
+  pub receives : Receives T msgs di
   receives = go (all-up-to agents (omega arith))
     where
-      go : Best (λ c j. (c < agents) × (j < rows c)) → (o : Option ℕ) × Received T msgs di o
+      go : Best (λ c j. (c < agents) × (j < rows c)) → Receives T msgs di
       go (inl no-one) = (none, nothing (λ b i v m. no-one b i v (m .agent, m .row) m))
       go (inr (b, i, v, m, top)) = (some v, found m (λ c j w n. top c j w (n .agent, n .row) n))

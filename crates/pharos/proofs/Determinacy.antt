@@ -6,17 +6,15 @@ use mathlib.Core.Logic.{_⊎_, inl, inr, ⊎-elim, ⊎-map, ite, by-cases}
 use Prim.Native.Nat.{ℕ, _≤_, _<_}
 use native.Mathlib.Decide.{ℕ-discrete, decLt}
 use native.Mathlib.Omega.{arith}
-use Rattle.pharos.specs.Tail.{_⊑_, same, more, Comparable, split, top, not-below, both, Prefix, prefix, map-⊑}
+use Rattle.pharos.specs.Prefix.{_⊑_, same, more, Comparable}
 use Rattle.pharos.specs.Model.{Model, Agent, System, slices, Live, Good, stepped, step, Run, start, _▸_, past, trace}
+use Rattle.pharos.specs.Runs.{course, LocalDeterminacy, DeterminacyOfTraces, SameViews, DeterminacyOfCourses, RunsEndAlike, SameTraces}
+use Rattle.pharos.proofs.Tail.{split, top, not-below, both, prefix, map-⊑}
 
 module _ {M : Model} where
-  open Model M using (agents, ended, early, late, seen, next, post, sees, forward, keeps)
+  open Model M using (agents, ended, early, late, seen, sees, forward, keeps)
 
-  -- 1. What an agent does is settled by where it stands and what it sees.
-  pub local-determinacy : (g h : System M) (a : ℕ) → g .agent a ≡ h .agent a
-      → a < agents → Live a (g .agent a)
-      → ((b : ℕ) → seen a (g .agent a .state) b (slices g b) ≡ seen a (g .agent a .state) b (slices h b))
-      → stepped g a ≡ stepped h a
+  pub local-determinacy : LocalDeterminacy M
   local-determinacy g h a e real live views = cc (sees a (g .agent a .state) real live (slices g) (slices h) views)
 
   -- A step is the agent `b`'s own, or leaves it as it was.
@@ -97,34 +95,26 @@ module _ {M : Model} where
         (λ _. compared _ (q ▸ ok′) b)
         (one-more q b)
 
-  -- 2. Of two runs from one state, each agent's trace in one begins its trace in the other.
-  pub determinacy : {g h f : System M} (r : Run g h) (q : Run g f) (b : ℕ) → Comparable (trace r b) (trace q b)
-  determinacy start q b = inl (begins q b)
-  determinacy (r ▸ ok) q b = one-more r ok (λ _ p c. determinacy r p c) q b
+  pub determinacy-of-traces : {g h f : System M} → DeterminacyOfTraces M g h f
+  determinacy-of-traces start q b = inl (begins q b)
+  determinacy-of-traces (r ▸ ok) q b = one-more r ok (λ _ p c. determinacy-of-traces r p c) q b
 
-  -- What an agent that may step sees does not depend on the order of the steps before.
-  pub same-views : {g h f : System M} {a t v : ℕ} (r : Run g h) (q : Run g f) → Good h a t → Good f a v → trace r a ≡ trace q a
-      → (c : ℕ) → seen a (h .agent a .state) c (slices h c) ≡ seen a (h .agent a .state) c (slices f c)
-  same-views r q ok ok′ e = views-alike r q ok ok′ (determinacy r q) e
+  pub same-views : {g h f : System M} {a t v : ℕ} → SameViews M g h f a t v
+  same-views r q ok ok′ e = views-alike r q ok ok′ (determinacy-of-traces r q) e
 
-  -- The same of the states that an agent has been in, the oldest first.
-  abbrev pub history : {g h : System M} → Run g h → ℕ → List (Model.State M)
-  history r b = reverse (map (λ x. x .state) (trace r b))
-
-  -- A step adds to the history of its own agent.
-  pub history-step : {g h : System M} {a t : ℕ} (r : Run g h) (ok : Good h a t) (b : ℕ)
-      → history (r ▸ ok) b ≡ ite (ℕ-discrete a b) (history r b ++ (step h a t .agent b .state ∷ [])) (history r b)
-  history-step {h = h} {a} r ok b = go (ℕ-discrete a b)
+  -- A step adds to the course of its own agent.
+  pub course-step : {g h : System M} {a t : ℕ} (r : Run g h) (ok : Good h a t) (b : ℕ)
+      → course (r ▸ ok) b ≡ ite (ℕ-discrete a b) (course r b ++ (step h a t .agent b .state ∷ [])) (course r b)
+  course-step {h = h} {a} r ok b = go (ℕ-discrete a b)
     where
       go : (d : Dec (a ≡ b))
           → reverse (map (λ x. x .state) (ite d (stepped h b) (h .agent b) ∷ ite d (trace r b) (past r b)))
-          ≡ ite d (history r b ++ (ite d (stepped h b) (h .agent b) .state ∷ [])) (history r b)
+          ≡ ite d (course r b ++ (ite d (stepped h b) (h .agent b) .state ∷ [])) (course r b)
       go (yes e) = reverse-cons (stepped h b .state) (map (λ x. x .state) (trace r b))
       go (no n) = refl
 
-  pub determinacy-of-states : {g h f : System M} (r : Run g h) (q : Run g f) (b : ℕ)
-      → Prefix (history r b) (history q b) ⊎ Prefix (history q b) (history r b)
-  determinacy-of-states r q b = ⊎-map (λ p. prefix (map-⊑ _ p)) (λ p. prefix (map-⊑ _ p)) (determinacy r q b)
+  pub determinacy-of-courses : {g h f : System M} → DeterminacyOfCourses M g h f
+  determinacy-of-courses r q b = ⊎-map (λ p. prefix (map-⊑ _ p)) (λ p. prefix (map-⊑ _ p)) (determinacy-of-traces r q b)
 
   -- An agent that has ended makes no step more, and there are no agents past the last.
   module _ {g h f : System M} (r : Run g h) (q : Run g f) (b : ℕ) where
@@ -135,13 +125,9 @@ module _ {M : Model} where
   idle {g} {h} r b past-last =
       onward b (h .clock) (λ y. g .agent b ≡ y) (λ g t ok _ e. absurd (omega arith)) r (omega arith) (begins r b) refl
 
-  abbrev pub Ended : System M → Type 0
-  Ended g = (b : ℕ) → b < agents → ended b (g .agent b .state) ≡ true
-
-  -- 3. Two runs from one state that end every agent leave all agents in the same states, with the same slices.
-  pub same-end : {g h f : System M} → Run g h → Run g f → Ended h → Ended f → h .agent ≡ f .agent
-  same-end {h = h} {f} r q end end′ = fun-ext λ b. by-cases (decLt b agents)
-      (λ l. ⊎-elim (λ p. stays r q b p (end b l)) (λ p. sym (stays q r b p (end′ b l))) (determinacy r q b))
+  pub runs-end-alike : {g h f : System M} → RunsEndAlike M g h f
+  runs-end-alike {h = h} {f} r q end end′ = fun-ext λ b. by-cases (decLt b agents)
+      (λ l. ⊎-elim (λ p. stays r q b p (end b l)) (λ p. sym (stays q r b p (end′ b l))) (determinacy-of-traces r q b))
       (λ l. sym (idle r b (omega arith)) ∙ idle q b (omega arith))
 
   -- An agent that has ended has made all its steps.
@@ -158,8 +144,7 @@ module _ {M : Model} where
   alone start b l = refl
   alone {g} (r ▸ ok) b l = by-step r ok b (λ y ys. y ∷ ys ≡ g .agent b ∷ []) (λ mine. absurd (omega (arith, mine .real))) (alone r b l)
 
-  -- Two runs from one state that end every agent have the same traces: whatever is counted over the steps agrees.
-  pub same-traces : {g h f : System M} (r : Run g h) (q : Run g f) → Ended h → Ended f → (b : ℕ) → trace r b ≡ trace q b
+  pub same-traces : {g h f : System M} → SameTraces M g h f
   same-traces r q end end′ b = by-cases (decLt b agents)
-      (λ l. ⊎-elim (λ p. grown b _ _ (end b l) q p) (λ p. sym (grown b _ _ (end′ b l) r p)) (determinacy r q b))
+      (λ l. ⊎-elim (λ p. grown b _ _ (end b l) q p) (λ p. sym (grown b _ _ (end′ b l) r p)) (determinacy-of-traces r q b))
       (λ l. alone r b (omega arith) ∙ sym (alone q b (omega arith)))

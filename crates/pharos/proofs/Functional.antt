@@ -5,7 +5,8 @@ use mathlib.Core.Logic.{_⊎_, inl, inr, ⊎-elim, by-cases, if-pos}
 use Prim.Native.Nat.{ℕ, _<_}
 use native.Mathlib.Decide.{decLt, ℕ-discrete}
 use native.Mathlib.Omega.{arith}
-use Rattle.pharos.specs.Published.{Instruction, local, send, receive, Messages, Dated, Types, instrOf, except, SystemState, CanReceive, Before, later, lower, higher, Received, nothing, found, execIns, exec, executes, Init}
+use Rattle.pharos.specs.Published.{Instruction, local, send, receive, Messages, Dated, Types, instrOf, except, SystemState, CanReceive, Before, later, lower, higher, Received, nothing, found, execIns, exec}
+use Rattle.pharos.specs.Theorems.{ReceivedOnce, InitOnce, ExecutesOnce, OwnStep}
 
 less-or-more : {C : Type 0} (m n : ℕ) → (m < n → C) → (n < m → C) → (m ≡ n → C) → C
 less-or-more m n less more same = by-cases (decLt m n) less (λ p. by-cases (decLt n m) more (λ q. same (omega arith)))
@@ -41,7 +42,7 @@ module _ {T : Types} where
       (λ same. less-or-more i j (λ l. inr (inl (higher e (sym same) (omega arith)))) (λ l. inl (higher (sym e) same (omega arith)))
       (λ p. inr (inr (same, p)))))
 
-  pub received-once : {msgs : Messages} {di : Dated State} {o p : Option ℕ} → Received T msgs di o → Received T msgs di p → o ≡ p
+  pub received-once : {msgs : Messages} {di : Dated State} {o p : Option ℕ} → ReceivedOnce T msgs di o p
   received-once (nothing no-one) (nothing no-one′) = refl
   received-once (nothing no-one) (found m best) = absurd (no-one _ _ _ m)
   received-once (found m best) (nothing no-one) = absurd (no-one _ _ _ m)
@@ -54,12 +55,10 @@ module _ {T : Types} where
   pub same-system : {g h : SystemState T} → g .st ≡ h .st → g .msgs ≡ h .msgs → g .t ≡ h .t → g ≡ h
   same-system {g} {h} p q r = λ k. record { st = p k; msgs = q k; t = r k }
 
-  -- There is one start.
-  pub init-once : {s s′ : SystemState T} → Init T s → Init T s′ → s ≡ s′
+  pub init-once : {s s′ : SystemState T} → InitOnce T s s′
   init-once i i′ = same-system (i .st ∙ sym (i′ .st)) (fun-ext λ b. fun-ext λ k. i .msgs b k ∙ sym (i′ .msgs b k)) (i .t ∙ sym (i′ .t))
 
-  -- The same agent's step at the same time leaves the same.
-  pub executes-once : {a : ℕ} {pre post post′ : SystemState T} → executes T a pre post → executes T a pre post′ → post .t ≡ post′ .t → post ≡ post′
+  pub executes-once : {a : ℕ} {pre post post′ : SystemState T} → ExecutesOnce T a pre post post′
   executes-once {a} {pre} {post} {post′} e e′ same-time =
       let same = received-once (e .received) (e′ .received) in
       let after : Option ℕ → State × Messages = exec T a (pre .st a) (pre .msgs) in
@@ -73,12 +72,7 @@ module _ {T : Types} where
   received-alike to from (nothing no-one) = nothing (λ b i v m. no-one b i v (from b i v m))
   received-alike to from (found m best) = found (to _ _ _ m) (λ c j w n. best c j w (from c j w n))
 
-  -- An agent's next state depends on its own state and the messages that it can receive, and on nothing else.
-  pub own-step : {a : ℕ} {pre post pre′ post′ : SystemState T} → executes T a pre post → executes T a pre′ post′
-      → pre .st a ≡ pre′ .st a
-      → ((b i v : ℕ) → CanReceive T (pre .msgs) (instrOf T a (pre .st a)) b i v → CanReceive T (pre′ .msgs) (instrOf T a (pre .st a)) b i v)
-      → ((b i v : ℕ) → CanReceive T (pre′ .msgs) (instrOf T a (pre .st a)) b i v → CanReceive T (pre .msgs) (instrOf T a (pre .st a)) b i v)
-      → post .st a ≡ post′ .st a
+  pub own-step : {a : ℕ} {pre post pre′ post′ : SystemState T} → OwnStep T a pre post pre′ post′
   own-step {a} {pre} {post} {pre′} {post′} e e′ same to from =
       let got-same = received-once (received-alike to from (e .received)) (rw (← same) at (e′ .received)) in
       ap (λ f. f a) (e .st) ∙ except-at (pre .st) a _

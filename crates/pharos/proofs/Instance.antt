@@ -7,8 +7,8 @@ use Prim.Native.Nat.{ℕ, _≤_}
 use native.Mathlib.Decide.{ℕ-discrete}
 use native.Mathlib.Omega.{arith}
 use Rattle.pharos.specs.Published.{Instruction, local, send, receive, Messages, except, Types, instrOf, SystemState, CanReceive, Received, execIns, exec, executes, Assumptions}
-use Rattle.pharos.specs.Functional.{received-once, received-alike, exec-state, same-system, left}
-use Rattle.pharos.specs.Search.{receives}
+use Rattle.pharos.proofs.Functional.{received-once, received-alike, exec-state, same-system, left}
+use Rattle.pharos.proofs.Search.{receives}
 use Rattle.pharos.specs.Model.{Model, Agent, System, Good, step, stepped}
 
 -- What an agent has sent, by row.
@@ -32,7 +32,7 @@ module _ (T : Types) where
   sends b u x = sendIns u x (instrOf T b u .ins)
 
   -- The pool after a step: the agent's own part has changed, and no other.
-  pool : (a : ℕ) (s : State) (msgs : Messages) (got : Option ℕ) → exec T a s msgs got .1 ≡ except msgs a (sends a s (msgs a))
+  pub pool : (a : ℕ) (s : State) (msgs : Messages) (got : Option ℕ) → exec T a s msgs got .1 ≡ except msgs a (sends a s (msgs a))
   pool a s msgs got = go (instrOf T a s .ins)
     where
       unchanged : msgs ≡ except msgs a (msgs a)
@@ -118,8 +118,8 @@ module _ (T : Types) (ok : Assumptions T) where
   abbrev pub system : SystemState T → System model
   system g = record { clock = g .t; agent = λ b. record { state = g .st b; sent = g .msgs b } }
 
-  abbrev pub published : System model → SystemState T
-  published g = record { st = λ b. g .agent b .state; msgs = λ b. g .agent b .sent; t = g .clock }
+  abbrev pub systemState : System model → SystemState T
+  systemState g = record { st = λ b. g .agent b .state; msgs = λ b. g .agent b .sent; t = g .clock }
 
   -- The system state after agent a's step.
   abbrev moved : SystemState T → ℕ → ℕ → SystemState T
@@ -152,7 +152,7 @@ module _ (T : Types) (ok : Assumptions T) where
   pub step-is-executes : {a : ℕ} {pre post : SystemState T} → Good (system pre) a (post .t)
       → system post ≡ step (system pre) a (post .t) → executes T a pre post
   step-is-executes {a} {pre} {post} ok e =
-      let same : post ≡ moved pre a (post .t) = ap published (e ∙ sym (moved-is-step pre a (post .t))) in
+      let same : post ≡ moved pre a (post .t) = ap systemState (e ∙ sym (moved-is-step pre a (post .t))) in
       record {
         real = ok .real;
         live = ok .live;
