@@ -6,7 +6,7 @@ use lib.Dec.{ltb, eqb}
 use lib.ListN.{getD, set, replicate}
 use lib.Seq.{sets}
 use Rattle.tables.specs.Frames.{Frame, opens, gives, ends, malformed}
-use Rattle.tables.specs.Layout.{rowOf, rowPlace, startPlace, tableWords}
+use Rattle.tables.specs.Layout.{rowOf, agentsPlace, countPlace, startPlace, rowPlace, tableWords}
 use Rattle.tables.specs.Rows.{rowReply}
 use Rattle.tables.specs.declared.Row.{Row}
 use Rattle.reading.specs.declared.Told.{Told}
@@ -60,8 +60,8 @@ framesReply fs = elim (inPlace 1 0 0 fs .reply) [ zero ↦ rowsGood 1 0 0 0 0 fs
 -- the words tb once the frames are put in, after a agents of which the last has i rows
 unfoldable pub loaded : List ℕ → (a i : ℕ) → List Frame → List ℕ
 loaded tb a i [] = tb
-loaded tb a i (opens b ws ∷ fs) = loaded (sets (set tb 0 (a + 1)) (startPlace a) ws) (a + 1) 0 fs
-loaded tb a i (gives b ws ∷ fs) = loaded (sets (set tb a (i + 1)) (rowPlace (a - 1) i) ws) a (i + 1) fs
+loaded tb a i (opens b ws ∷ fs) = loaded (sets (set tb agentsPlace (a + 1)) (startPlace a) ws) (a + 1) 0 fs
+loaded tb a i (gives b ws ∷ fs) = loaded (sets (set tb (countPlace (a - 1)) (i + 1)) (rowPlace (a - 1) i) ws) a (i + 1) fs
 loaded tb a i (ends ∷ fs) = tb
 loaded tb a i (malformed ∷ fs) = tb
 

@@ -1,5 +1,7 @@
 // Replies 2 and 3: the lines of a text in their places.
 use crate::Told;
+use tables::frames::END_BYTES;
+use tables::frames::FRAME_BYTES;
 use tables::frames::Line;
 use tables::frames::line_at;
 use tables::replies::ACCEPTED;
@@ -62,7 +64,7 @@ pub fn in_place(text: &[u8]) -> Told
                 a += 1;
                 i = 0;
                 n += 1;
-                p += 37;
+                p += FRAME_BYTES;
             }
             Line::Gives(b) => {
                 if !may_give(b, a, i) {
@@ -73,7 +75,7 @@ pub fn in_place(text: &[u8]) -> Told
                 }
                 i += 1;
                 n += 1;
-                p += 37;
+                p += FRAME_BYTES;
             }
             Line::Ends => {
                 if i == 0 {
@@ -82,7 +84,7 @@ pub fn in_place(text: &[u8]) -> Told
                         line: n,
                     };
                 }
-                if p + 3 < text.len() {
+                if p + END_BYTES < text.len() {
                     return Told {
                         reply: OUT_OF_PLACE,
                         line: n + 1,
