@@ -8,6 +8,7 @@ use lib.Dec.{eqb}
 use lib.ListN.{length, getD, set, take, drop, replicate, length-set, length-append, length-replicate}
 use lib.Seq.{sets, length-sets, take-at}
 use Rattle.tables.specs.Layout.{agentsPlace, countPlace, rowPlace, startPlace, tableWords}
+use Rattle.tables.specs.Basics.{first}
 use Rattle.tables.specs.Rows.{rowReply}
 use Rattle.tables.specs.Table.{goodTable}
 use Rattle.tables.specs.Lines.{same, endLine, digitsLine, field, lines}
@@ -35,7 +36,7 @@ Fours (f ∷ fs) = Four f × Fours fs
 
 built : (fs tb : _) (n b i c e l : ℕ) → Fours fs → Open tb b i c e l → Placed n (b + 1) i fs → i + rowsNext fs ≡ c → rowsGood n c i e l fs .reply ≡ 0
     → TableFacts (loaded tb (b + 1) i fs)
-unfolding rowsNext rowsGood loaded inPlace after-open after-give
+unfolding first rowsNext rowsGood loaded inPlace after-open after-give
 built [] tb n b i c e l f t q k z = absurd (let y = q .placed in omega arith)
 built (malformed ∷ fs) tb n b i c e l f t q k z = absurd (let y = q .placed in omega arith)
 built (ends ∷ fs) tb n b i c e l f t q k z =
@@ -65,7 +66,7 @@ built (gives b′ ws ∷ fs) tb n b i c e l f t q k z =
 
 -- the first line opens agent 0
 first-built : (tb : List ℕ) (fs : List Frame) → Closed tb 0 → Fours fs → Placed 1 0 0 fs → rowsGood 1 0 0 0 0 fs .reply ≡ 0 → TableFacts (loaded tb 0 0 fs)
-unfolding inPlace rowsGood loaded after-open
+unfolding first inPlace rowsGood loaded after-open
 first-built tb [] t f q z = absurd (let y = q .placed in omega arith)
 first-built tb (malformed ∷ fs) t f q z = absurd (let y = q .placed in omega arith)
 first-built tb (ends ∷ fs) t f q z = absurd (let y = q .placed in omega arith)
