@@ -3,9 +3,11 @@ use crate::Told;
 use crate::loading::put_agent;
 use crate::loading::put_row;
 use crate::placing::in_place;
+use tables::frames::FRAME_BYTES;
 use tables::frames::Line;
 use tables::frames::sound_line;
 use tables::frames::word;
+use tables::layout::TABLE_WORDS;
 use tables::replies::ACCEPTED;
 use tables::replies::TOO_SHORT;
 use tables::rows::row_of;
@@ -34,7 +36,7 @@ fn rows_next(text: &[u8], at: usize) -> u32
         match line {
             Line::Gives(_) => {
                 c += 1;
-                p += 37;
+                p += FRAME_BYTES;
             }
             _ => {
                 return c;
@@ -62,7 +64,7 @@ fn take_rows(text: &[u8], table: &mut [u32]) -> Told
         match line {
             Line::Opens(_) => {
                 put_agent(text, p, table, a);
-                p += 37;
+                p += FRAME_BYTES;
                 n += 1;
                 a += 1;
                 c = rows_next(text, p);
@@ -81,7 +83,7 @@ fn take_rows(text: &[u8], table: &mut [u32]) -> Told
                     return Told { reply, line: n };
                 }
                 put_row(table, a, i, code, k, from, to);
-                p += 37;
+                p += FRAME_BYTES;
                 n += 1;
                 i += 1;
                 early = row.early;
@@ -102,17 +104,17 @@ fn take_rows(text: &[u8], table: &mut [u32]) -> Told
 }
 
 // A table of some words.
-fn blank_table() -> [u32; 2129]
+fn blank_table() -> [u32; TABLE_WORDS]
     ensures { λ r. ⌜ length r ≡ tableWords ⌝ }
 {
-    [0; 2129]
+    [0; TABLE_WORDS]
 }
 
 // Reads a table's text into the lent words: the reply, with its line. They are written only once every row is accepted.
 pub fn read(text: &[u8], table: &mut [u32]) -> Told
     ensures { λ r. ⌜ Read (now (text .entry)) (now (table .entry)) r (now (table .exit)) ⌝ }
 {
-    if table.len() < 2129 {
+    if table.len() < TABLE_WORDS {
         return Told {
             reply: TOO_SHORT,
             line: 0,
@@ -127,6 +129,6 @@ pub fn read(text: &[u8], table: &mut [u32]) -> Told
     if good.reply != ACCEPTED {
         return good;
     }
-    copy(&words, &mut table[..2129]);
+    copy(&words, &mut table[..TABLE_WORDS]);
     good
 }

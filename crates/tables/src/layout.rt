@@ -7,19 +7,21 @@ ghost use Rattle.tables.specs.Layout.{tableWords, agents, rows, countPla
 pub const MOST_AGENTS: usize = 16;
 
 pub const MOST_ROWS: usize = 32;
+// Where the number of agents stands, before the row counts.
+pub const AGENTS_AT: usize = 0;
 // Where the starting registers begin, after the number of agents and the row counts.
-pub const STARTS_AT: usize = 17;
+pub const STARTS_AT: usize = 1 + MOST_AGENTS;
 // Where the rows begin, after the starting registers.
-pub const ROWS_AT: usize = 81;
+pub const ROWS_AT: usize = STARTS_AT + 4 * MOST_AGENTS;
 
-pub const TABLE_WORDS: usize = 2129;
+pub const TABLE_WORDS: usize = ROWS_AT + 4 * MOST_ROWS * MOST_AGENTS;
 
 // The number of agents.
 pub fn agent_count(table: &[u32]) -> u32
     requires { ⌜ tableWords ≤ length (now table) ⌝ }
     ensures { λ r. ⌜ r ≡ agents (now (table .entry)) ⌝ }
 {
-    table[0]
+    table[AGENTS_AT]
 }
 
 // Where the row count of agent a stands.
