@@ -4,16 +4,19 @@ use mathlib.Core.Bool.{Bool, true, false, cond}
 use mathlib.Core.List.{List, [], _∷_, _++_, map, append-assoc, append-nil}
 use Prim.Native.Nat.{ℕ, zero, suc, _+_, _-_, _^_, _≤_, _<_}
 use native.Mathlib.Omega.{arith}
-use lib.Dec.{ltb, eqb}
+use lib.Dec.{eqb}
 use lib.ListN.{length, take, drop, length-append}
 use lib.Seq.{take-at, take-append-seam}
+use Rattle.tables.specs.Basics.{first}
 use Rattle.tables.specs.Layout.{tableWords}
 use Rattle.tables.specs.Lines.{same, newline, endLine, lines, allHex, number, field, digitsLine}
 use Rattle.tables.specs.Frames.{Frame, opens, gives, ends, malformed, fourWords, frameOf, framesOf}
 use Rattle.tables.proofs.Passed.{and-1}
 use Rattle.tables.proofs.Lines.{same-eq, same-self, hex-part, number-next, number-room}
 use Rattle.tables.proofs.Newlines.{joined, joined-lines, line-hex, line-length, lines-end}
-use Rattle.reading.specs.Reader.{noneLeft, told, inPlace, framesReply, loaded, tableOf}
+use Rattle.reading.specs.Reader.{endRules, inPlace, framesReply, loaded, tableOf}
+use Rattle.reading.specs.declared.Told.{Told}
+use Rattle.reading.proofs.Places.{place-end, place-end-not}
 use Rattle.reading.proofs.Accepted.{Placed, placed-first, open-agent, open-on, give-row, give-on}
 use Rattle.reading.proofs.Outcomes.{accepted-placed}
 use Rattle.traces.specs.Input.{tableBytes, tableText, choiceLines, goodChoice, badChoice, choicesIn}
@@ -102,13 +105,13 @@ choices-small (l ∷ ls) n p h = go (goodChoice l) refl (λ e. choices-small ls 
 
 -- nothing follows the end line
 ends-last : (n a i : ℕ) (fs : List Frame) → Placed n a i (ends ∷ fs) → fs ≡ []
-unfolding inPlace
+unfolding first
 ends-last n a i [] q = refl
-ends-last n a i (f ∷ fs) q = go (ltb 0 i) (q .placed)
+ends-last n a i (f ∷ fs) q = go (eqb (first (endRules a i)) 0) refl
   where
-    go : (b : Bool) → cond b (told 3 (n + 1)) (told 3 n) .reply ≡ 0 → f ∷ fs ≡ []
-    go true e = absurd (omega arith)
-    go false e = absurd (omega arith)
+    go : (t : Bool) → eqb (first (endRules a i)) 0 ≡ t → f ∷ fs ≡ []
+    go true e = let z = ap (λ (t : Told). t .reply) (sym (place-end n a i (f ∷ fs) e)) ∙ q .placed in absurd (omega arith)
+    go false e = let z = ap (λ (t : Told). t .reply) (sym (place-end-not n a i (f ∷ fs) e)) ∙ q .placed in absurd (omega arith)
 
 none-mapped : (ls : List (List ℕ)) → map frameOf ls ≡ [] → ls ≡ []
 none-mapped [] e = refl
@@ -120,7 +123,7 @@ record Closes (ls : List (List ℕ)) : Type 0 where
   splits : (r : List ℕ) → lines (joined ls ++ r) ≡ ls ++ lines r
 
 closes : (ls : List (List ℕ)) (n a i : ℕ) → Placed n a i (map frameOf ls) → Closes ls
-unfolding inPlace tableBytes joined
+unfolding first inPlace tableBytes joined
 closes [] n a i q = absurd (let z = q .placed in omega arith)
 closes (l ∷ ls) n a i q = go (frameOf l) (tells l) q (λ n a i. closes ls n a i)
   where
