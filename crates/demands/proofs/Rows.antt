@@ -17,6 +17,7 @@ use Rattle.choices.specs.declared.Best.{Best}
 use Rattle.choices.specs.declared.Best.the-variants.{Nothing, Message}
 use Rattle.choices.specs.Effect.{goTo, after}
 use Rattle.choices.proofs.After.{after-on}
+use Rattle.demands.specs.Demand2.{RowsAreModels}
 use Rattle.executive.proofs.Effects.{send-is-on, receive-found, receive-none}
 use Rattle.executive.proofs.Numbers.{ones-bits, low-first, sub-first}
 use Rattle.demands.specs.Instance.{goesOn, localRow, sending, receiving, instructionOf, published}
@@ -82,9 +83,9 @@ skips : (b : Bool) (n : ℕ) (s : Agent) → cond b (goesOn n s) (goesOn 0 s) �
 skips true n s = refl
 skips false n s = refl
 
-pub local-is-after : (r : Row) (s : Agent) → r .op ≢ 0x30 → localRow r s ≡ after r Nothing s
+pub rows-are-models : RowsAreModels
 unfolding localRow after
-local-is-after r s other =
+rows-are-models r s other =
     let x = getD (s .regs) (r .x) 0 in
     let y = getD (s .regs) (r .y) 0 in
     let on : s .pos + 1 + 0 ≡ s .pos + 1 = add-zero (s .pos + 1) in
@@ -95,7 +96,7 @@ module _ (T : List ℕ) (a : ℕ) (s : Agent) (msgs : Messages) where
   effect-kind {r} m (sends op) = ap (λ (p : ℕ). goTo p s) (add-zero (s .pos + 1)) ∙ sym (send-is-on r m s op)
   effect-kind {r} Nothing (receives op) = sym (receive-none r Nothing s op refl)
   effect-kind {r} (Message l b i v) (receives op) = sym (receive-found l b i v r (Message l b i v) s op refl)
-  effect-kind {r} m (others p q) = local-is-after r s q ∙ after-other r m s q
+  effect-kind {r} m (others p q) = rows-are-models r s q ∙ after-other r m s q
 
   pub effect : (r : Row) (m : Best) → execIns (published T) a s msgs (valueOf m) (instructionOf r) .0 ≡ after r m s
   effect r m = effect-kind m (kind r)
@@ -117,7 +118,7 @@ module _ (T : List ℕ) (a : ℕ) (s : Agent) (msgs : Messages) where
   on-kind got (sends op) = (omega arith, omega arith)
   on-kind none (receives op) = (omega arith, omega arith)
   on-kind (some v) (receives op) = (omega arith, omega arith)
-  on-kind {r} got (others p q) = rw (local-is-after r s q) (after-on r Nothing s)
+  on-kind {r} got (others p q) = rw (rows-are-models r s q) (after-on r Nothing s)
 
   pub goes-on : (r : Row) (got : Option ℕ)
       → let s′ = execIns (published T) a s msgs got (instructionOf r) .0 in (s .pos < s′ .pos) × (s′ .pos ≤ s .pos + 1 + r .n)

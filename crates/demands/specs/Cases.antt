@@ -1,10 +1,11 @@
--- 01's first example, computed: the states that its two agents pass through, whole, cut short by a refusal, and in a list of an odd number of words.
+-- 01's first example, computed: the states that its two agents pass through, whole, cut short by a refusal, and in a list of an odd number of words; and what its output shows.
 use mathlib.Core.Path.{_≡_, refl}
 use mathlib.Core.List.{List, [], _∷_, _++_}
 use Prim.Native.Nat.{ℕ}
 use lib.ListN.{replicate}
 use Rattle.tables.specs.Basics.{first, every, allBelow, allZero, zeroFrom}
 use Rattle.tables.specs.Layout.{rowOf}
+use Rattle.tables.specs.Lines.{newline, lines, same, hexDigit, allHex, number, field, digitsLine}
 use Rattle.tables.specs.Rows.{rowReply, wellFormed, fieldsFit, namesOf, within}
 use Rattle.tables.specs.Table.{goodTable, goodAgent, goodRows, rowReplyAt, earlyBefore, lateBefore}
 use Rattle.choices.specs.declared.Agent.{Agent}
@@ -14,7 +15,9 @@ use Rattle.choices.specs.Effect.{after, receive}
 use Rattle.choices.specs.Fit.{inTime, unfinished}
 use Rattle.choices.specs.Step.{choiceReply, stuck, canGo, accepted, withAgent, withSent}
 use Rattle.executive.specs.Calls.{runRefusal}
-use Rattle.demands.specs.Steps.{stepsFrom, comesTo, passedInRun}
+use Rattle.traces.specs.Output.{hexChar, hexDigits}
+use Rattle.demands.specs.Steps.{step, stepsFrom, comesTo, passedInRun}
+use Rattle.demands.specs.Traces.{isStepLine, stepIn, stepsShown}
 
 -- SEND 0, 7 in the window 1 to 3 with 5 in register 0; RECV 1, 7 in the window 4 to 8
 table : List ℕ
@@ -42,3 +45,16 @@ record Example : Type 0 where
 example : Example
 unfolding table through stepsFrom comesTo first every runRefusal startWords choiceReply stuck canGo inTime unfinished accepted withAgent withSent after receive best lookAgents lookRows look visible beats goodTable goodAgent goodRows rowReplyAt rowReply wellFormed fieldsFit namesOf within earlyBefore lateBefore rowOf zeroFrom allZero allBelow
 example = record { sends = refl; receives = refl; cut = refl; odd = refl }
+
+-- the output that 01 gives
+output : List ℕ
+unfolding hexDigits hexChar
+output =
+    hexDigits 46 0x0300010000000300000005000000000000000000000000
+    ++ (newline ∷ hexDigits 46 0x0301010000000400000000000000050000000000000000
+    ++ (newline ∷ hexDigits 8 0xFE000002
+    ++ (newline ∷ [])))
+
+shown-steps : stepsShown (lines output) ≡ step 0 3 (sender 1) ∷ step 1 4 (at 1 (0 ∷ 5 ∷ 0 ∷ 0 ∷ [])) ∷ []
+unfolding output lines stepsShown isStepLine stepIn digitsLine allHex same field number hexDigit
+shown-steps = refl

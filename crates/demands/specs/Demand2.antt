@@ -10,12 +10,16 @@ use Rattle.pharos.specs.Published.{SystemState, executes, Init}
 use Rattle.tables.specs.Layout.{tableWords}
 use Rattle.tables.specs.Table.{goodTable}
 use Rattle.tables.specs.Calls.{checkReply}
+use Rattle.tables.specs.declared.Row.{Row}
+use Rattle.choices.specs.declared.Agent.{Agent}
+use Rattle.choices.specs.declared.Best.the-variants.{Nothing}
+use Rattle.choices.specs.Effect.{after}
 use Rattle.choices.specs.State.{stateWords, startWords}
 use Rattle.choices.specs.Fit.{fits}
 use Rattle.choices.specs.Step.{choiceReply, accepted}
 use Rattle.executive.specs.Calls.{tablePart, statePart, pastState, stepInto}
 use Rattle.demands.specs.Reasons.{ModelAllows, Reply}
-use Rattle.demands.specs.Instance.{published, decode}
+use Rattle.demands.specs.Instance.{localRow, published, decode}
 
 -- the words of a table that is accepted
 pub record Table (tb : List ℕ) : Type 0 where
@@ -30,6 +34,10 @@ TableIsChecked = (tb : List ℕ) → (checkReply tb ≡ 0) ↔ Table (tablePart 
 pub record Fitting (tb st : List ℕ) : Type 0 where
   pub long : length st ≡ stateWords
   pub fit : fits tb st ≡ true
+
+-- What a row that touches its agent alone does in the model, by 01's table, is what the executive's row does: SET, ADD, SUB, ONES, LOW, SKIP and JUMP.
+abbrev pub RowsAreModels : Type 0
+RowsAreModels = (r : Row) (s : Agent) → r .op ≢ 0x30 → localRow r s ≡ after r Nothing s
 
 -- A choice of agent a and time t.
 pub record Choice (tb st : List ℕ) (a t : ℕ) : Type 0 where

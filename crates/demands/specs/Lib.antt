@@ -5,6 +5,7 @@ pub mod Demand2
 pub mod Assumed
 pub mod Steps
 pub mod Runs
-pub mod Cases
 pub mod Demand3
 pub mod Traces
+pub mod ProvedCases
+pub mod Cases

@@ -4,4 +4,3 @@ pub mod Calls
 pub mod Numbers
 pub mod Effects
 pub mod Laws
-pub mod Cases

@@ -1,9 +1,9 @@
 -- The proved table: the cases P1 to P12 of 01, as one list with one statement, from the text of a table to the reply and the agents' states.
 -- The cases' numbers are written from 01; nothing here is taken from a run. Assumes nothing.
-use mathlib.Core.Bool.{Bool, true, false, _&&_, cond}
+use mathlib.Core.Bool.{Bool, true, _&&_}
 use mathlib.Core.List.{List, [], _∷_, _++_, map}
-use Prim.Native.Nat.{ℕ, zero, suc, _+_, _/_, _%_}
-use lib.Dec.{ltb, eqb, T}
+use Prim.Native.Nat.{ℕ, zero, suc, _+_, _/_}
+use lib.Dec.{eqb, T}
 use lib.ListN.{getD, length, take, drop, replicate}
 use lib.Count.{onesIn, trailingZeros}
 use Rattle.tables.specs.Basics.{first, every, allBelow, allZero, zeroFrom}
@@ -19,23 +19,15 @@ use Rattle.choices.specs.Messages.{best, lookAgents, lookRows, look, visible, b
 use Rattle.choices.specs.Effect.{after, receive}
 use Rattle.choices.specs.Fit.{inTime, unfinished}
 use Rattle.choices.specs.Step.{choiceReply, stuck, canGo, accepted, withAgent, withSent}
 use Rattle.executive.specs.Run.{runFrom}
 use Rattle.executive.specs.Calls.{runInto, runRefusal}
+use Rattle.traces.specs.Output.{hexChar, hexDigits}
 
--- a line of a text, from the number that its k digits stand for
-hexChar : ℕ → ℕ
-hexChar d = cond (ltb d 10) (48 + d) (55 + d)
-
-digits : ℕ → ℕ → List ℕ → List ℕ
-unfolding hexChar
-digits zero m rest = rest
-digits (suc k) m rest = digits k (m / 16) (hexChar (m % 16) ∷ rest)
-
--- a text of such lines, 36 digits each, with its end line
+-- a text of lines, 36 digits each, from the numbers that they stand for, with its end line
 text : List ℕ → List ℕ
-unfolding digits
+unfolding hexDigits hexChar
 text [] = endLine
-text (m ∷ ms) = digits 36 m (newline ∷ text ms)
+text (m ∷ ms) = hexDigits 36 m ++ (newline ∷ text ms)
 
 -- A table's lines with the choices of a run, its reply, its count and each agent's position and registers after it; or lines with the reply and the line told.
 pub data Case : Type 0 where
@@ -48,7 +40,7 @@ agentsFrom st a zero = []
 agentsFrom st a (suc n) = getD st (posPlace a) 0 ∷ take 4 (drop (regPlace a) st) ++ agentsFrom st (a + 1) n
 
 holds : Case → Bool
-unfolding first every same text digits hexChar agentsFrom runInto runRefusal runFrom startWords choiceReply stuck canGo inTime unfinished accepted withAgent withSent after receive best lookAgents lookRows look visible beats goodTable goodAgent goodRows rowReplyAt rowReply wellFormed fieldsFit namesOf within earlyBefore lateBefore rowOf zeroFrom allZero allBelow readInto framesInto framesReply framesOf frameOf fourWords digitsLine allHex field number hexDigit lines inPlace rowsGood rowsNext loaded tableOf onesIn trailingZeros
+unfolding first every same text agentsFrom runInto runRefusal runFrom startWords choiceReply stuck canGo inTime unfinished accepted withAgent withSent after receive best lookAgents lookRows look visible beats goodTable goodAgent goodRows rowReplyAt rowReply wellFormed fieldsFit namesOf within earlyBefore lateBefore rowOf zeroFrom allZero allBelow readInto framesInto framesReply framesOf frameOf fourWords digitsLine allHex field number hexDigit lines inPlace rowsGood rowsNext loaded tableOf onesIn trailingZeros
 holds (runs ls cs r n ss) =
     let q = runInto (readInto (text ls) (replicate tableWords 0) .table) (replicate stateWords 0) cs in
     eqb (q .reply) r && eqb (q .count) n && same (agentsFrom (q .state) 0 (length ss / 5)) ss
