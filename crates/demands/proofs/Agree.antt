@@ -1,32 +1,28 @@
 -- Demand 3 of the bytes that the release desk compares, proved: two traces of one table agree.
 use mathlib.Core.Path.{_≡_, refl, sym, ap, subst₂, _∙_}
-use mathlib.Core.Logic.{inl, inr, ⊎-map, by-cases}
+use mathlib.Core.Logic.{inl, ⊎-map, by-cases}
 use mathlib.Core.List.{List, [], _∷_, _++_}
-use Prim.Native.Nat.{ℕ, _≤_, _<_}
+use Prim.Native.Nat.{ℕ, _<_}
 use native.Mathlib.Decide.{decLt}
 use native.Mathlib.Omega.{arith}
-use lib.ListN.{drop, replicate, length, length-replicate}
-use Rattle.tables.specs.Layout.{agents, rows, tableWords}
+use lib.ListN.{drop}
+use Rattle.tables.specs.Layout.{agents, rows}
 use Rattle.tables.specs.Frames.{framesOf}
 use Rattle.tables.proofs.Good.{few}
-use Rattle.reading.specs.Reader.{framesReply, tableOf}
-use Rattle.reading.specs.declared.Told.{Told}
-use Rattle.reading.proofs.ReadGood.{table-length, read-good}
+use Rattle.reading.specs.Reader.{tableOf}
 use Rattle.choices.specs.declared.Agent.{Agent}
 use Rattle.choices.specs.State.{startWords, agentAt, pos, posPlace}
 use Rattle.executive.specs.Run.{runFrom}
 use Rattle.executive.proofs.Start.{start-low}
-use Rattle.traces.specs.Input.{tableText}
-use Rattle.traces.proofs.Parts.{read-told, read-table}
 use Rattle.demands.specs.Demand2.{Table, Fitting}
 use Rattle.demands.specs.Steps.{Step, stepsFrom, comesTo, lastOf}
 use Rattle.pharos.specs.Prefix.{OneBegins}
 use Rattle.demands.specs.Demand3.{AllEnded}
-use Rattle.demands.specs.Traces.{traceSteps, choicesOfInput, shows, lastPosition, AcceptedText, wordsOf, ShowsEnds, TracesAgree, TracesEndAlike}
+use Rattle.demands.specs.Traces.{traceSteps, choicesOfInput, shows, lastPosition, AcceptedText, TracesAgree, TracesEndAlike}
 use Rattle.demands.proofs.Demand2.{start-is-models}
 use Rattle.demands.proofs.Demand3.{deterministic-from, same-courses-from}
 use Rattle.demands.proofs.Made.{steps-last, comes-nowhere}
-use Rattle.demands.proofs.TableText.{table-text}
+use Rattle.demands.proofs.TableText.{frames-accepted, words-read, table-read, table-text}
 use Rattle.demands.proofs.Traced.{Gives, no-step, all-steps, gives, shown-steps}
 
 -- lists that begin with the same state
@@ -46,17 +42,8 @@ module _ (text : List ℕ) (ok : AcceptedText text) where
   abbrev begin : List ℕ
   begin = startWords rules
 
-  blank-length : length {A = ℕ} (replicate tableWords 0) ≡ tableWords
-  blank-length = length-replicate {A = ℕ} tableWords 0
-
-  read : framesReply (framesOf text) .reply ≡ 0
-  read = ap (λ (q : Told). q .reply) (sym (read-told text (replicate tableWords 0) blank-length)) ∙ ok
-
-  words-are : wordsOf text ≡ rules
-  words-are = read-table text (replicate tableWords 0) blank-length read
-
   table : Table rules
-  table = record { long = table-length (framesOf text); good = read-good text read }
+  table = table-read text ok
 
   starts : Fitting rules begin
   starts = start-is-models rules table .0
@@ -70,7 +57,7 @@ module _ (text : List ℕ) (ok : AcceptedText text) where
       go (no-step e) = ([], e)
       go (all-steps a) =
           let cs = choicesOfInput (text ++ more) in
-          (cs, shown-steps (text ++ more) out a ∙ ap (λ (t : List ℕ). stepsFrom (tableOf (framesOf t)) (startWords (tableOf (framesOf t))) cs) (table-text text more read))
+          (cs, shown-steps (text ++ more) out a ∙ ap (λ (t : List ℕ). stepsFrom (tableOf (framesOf t)) (startWords (tableOf (framesOf t))) cs) (table-text text more (frames-accepted text ok)))
 
   agree : (cs ds : List ℕ) (b : ℕ) → OneBegins (comesTo b (stepsFrom rules begin cs)) (comesTo b (stepsFrom rules begin ds))
   agree cs ds b = by-cases (decLt b (agents rules))
@@ -103,7 +90,7 @@ pub traces-end-alike : TracesEndAlike
 traces-end-alike text more other out out′ ok end end′ b =
     let (cs, e) = run-of text ok more out in
     let (ds, f) = run-of text ok other out′ in
-    let w = words-are text ok in
+    let w = words-read text ok in
     let all : AllEnded (rules text ok) (runFrom (rules text ok) (begin text ok) 0 cs .state) =
     ends text ok cs (λ c h. ap (λ (k : List Step). lastPosition (comesTo c k)) (sym e) ∙ (rw w at (end c (rw w h)))) in
     let all′ : AllEnded (rules text ok) (runFrom (rules text ok) (begin text ok) 0 ds .state) =

@@ -1,12 +1,9 @@
 -- What document 002 assumes of its constants holds of every table that is accepted, by the rules of its rows; and what it shows of behaviours holds of its behaviours.
 use mathlib.Core.Path.{_≡_, ap, _∙_}
-use mathlib.Core.Bool.{true, false}
-use mathlib.Core.List.{List}
-use Prim.Native.Nat.{ℕ, _<_}
+use Prim.Native.Nat.{ℕ}
 use native.Mathlib.Omega.{arith}
-use lib.Dec.{leb}
 use borrow.Author.Tests.{ltb-true, lt-leb, leb-false}
-use Rattle.pharos.specs.Published.{SystemState, Assumptions, exec, executes}
+use Rattle.pharos.specs.Published.{exec}
 use Rattle.pharos.proofs.Functional.{except-at}
 use Rattle.pharos.proofs.GoodStates.{init-good}
 use Rattle.pharos.proofs.Invariants.{invariant, message-invariant}

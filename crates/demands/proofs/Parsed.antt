@@ -1,21 +1,20 @@
 -- Lines that were written are read back: digits to their number, step lines to their steps. Assumes nothing.
 use mathlib.Core.Path.{_≡_, refl, sym, ap, _∙_}
 use mathlib.Core.Logic.{by-cases}
-use mathlib.Core.Bool.{Bool, true, false, _&&_, cond, and-assoc, and-true}
+use mathlib.Core.Bool.{true, false}
 use mathlib.Core.List.{List, [], _∷_, _++_, append-assoc, append-nil}
-use Prim.Native.Nat.{ℕ, zero, suc, _+_, _*_, _/_, _%_, _^_, _≤_, _<_}
+use Prim.Native.Nat.{ℕ, zero, suc, _+_, _*_, _/_, _%_, _^_, _<_}
 use native.Mathlib.Nat.{pow-succ'}
 use native.Mathlib.Decide.{decLt}
 use native.Mathlib.Omega.{arith}
-use lib.Dec.{ltb, leb, eqb, lit<}
+use lib.Dec.{ltb, lit<}
 use lib.ListN.{length, take, drop, getD, length-append}
-use lib.Seq.{take-at, drop-at, drop-drop, take-append-le, drop-append-le}
+use lib.Seq.{take-at, drop-at, drop-drop}
 use borrow.Author.Tests.{lt-ltb, le-ltb, le-leb, lt-leb}
 use Rattle.tables.specs.Lines.{newline, same, lines, hexDigit, allHex, number, field, digitsLine}
 use Rattle.tables.proofs.Tests.{and-both, and-right}
 use Rattle.tables.proofs.Passed.{and-1, and-2}
 use Rattle.tables.proofs.Newlines.{lines-digits}
-use Rattle.choices.specs.declared.Agent.{Agent}
 use Rattle.traces.specs.Output.{hexChar, hexDigits, hexWords, stepLine, lastLine}
 use Rattle.traces.proofs.Writes.{hexDigits-length, hexWords-length}
 use Rattle.traces.proofs.Steps.{stepLine-length, lastLine-length}

@@ -1,14 +1,13 @@
 -- Words of 32 bits stay words of 32 bits: of a table that was read, and of every state that its steps lead to. Assumes nothing.
-use mathlib.Core.Path.{_≡_, refl, sym, ap, subst, _∙_}
-use mathlib.Core.Logic.{_≢_, by-cases}
+use mathlib.Core.Path.{_≡_}
 use mathlib.Core.Bool.{Bool, true, false, cond}
 use mathlib.Core.List.{List, [], _∷_, _++_}
-use Prim.Native.Nat.{ℕ, zero, suc, _+_, _-_, _/_, _%_, _^_, _≤_, _<_}
+use Prim.Native.Nat.{ℕ, zero, suc, _+_, _/_, _%_, _^_, _≤_, _<_}
 use native.Mathlib.Decide.{decLt, ℕ-discrete}
 use native.Mathlib.Omega.{arith}
 use lib.Dec.{eqb, lit<}
 use lib.ListN.{length, getD, set, take, drop, replicate}
-use lib.Seq.{sets, set-out, getD-set-same, getD-set-other, getD-take, getD-drop, take-nil}
+use lib.Seq.{sets, set-out, getD-set-same, getD-set-other, getD-drop}
 use lib.Count.{onesIn, trailingZeros, trailing-le}
 use Rattle.tables.specs.declared.Row.{Row}
 use Rattle.tables.specs.Layout.{agents, row, rowOf, rowPlace}

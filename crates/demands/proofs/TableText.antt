@@ -1,15 +1,15 @@
 -- A text that `read` accepts: its words are words of 32 bits, and at the front of an input it is the table's text, whatever follows. Assumes nothing.
-use mathlib.Core.Path.{_≡_, refl, sym, ap, ap₂, subst, _∙_}
+use mathlib.Core.Path.{_≡_, refl, sym, ap, _∙_}
 use mathlib.Core.Bool.{Bool, true, false, cond}
-use mathlib.Core.List.{List, [], _∷_, _++_, map, append-assoc, append-nil}
-use Prim.Native.Nat.{ℕ, zero, suc, _+_, _-_, _^_, _≤_, _<_}
+use mathlib.Core.List.{List, [], _∷_, _++_, map, append-assoc}
+use Prim.Native.Nat.{ℕ, _+_, _≤_, _<_}
 use native.Mathlib.Omega.{arith}
 use lib.Dec.{eqb}
-use lib.ListN.{length, take, drop, length-append}
-use lib.Seq.{take-at, take-append-seam}
+use lib.ListN.{length, replicate, length-append, length-replicate}
+use lib.Seq.{take-append-seam}
 use Rattle.tables.specs.Basics.{first}
 use Rattle.tables.specs.Layout.{tableWords}
-use Rattle.tables.specs.Lines.{same, newline, endLine, lines, allHex, number, field, digitsLine}
+use Rattle.tables.specs.Lines.{same, endLine, lines, number, field, digitsLine}
 use Rattle.tables.specs.Frames.{Frame, opens, gives, ends, malformed, fourWords, frameOf, framesOf}
 use Rattle.tables.proofs.Passed.{and-1}
 use Rattle.tables.proofs.Lines.{same-eq, same-self, hex-part, number-next, number-room}
@@ -19,9 +19,31 @@ use Rattle.reading.specs.declared.Told.{Told}
 use Rattle.reading.proofs.Places.{place-end, place-end-not}
 use Rattle.reading.proofs.Accepted.{Placed, placed-first, open-agent, open-on, give-row, give-on}
 use Rattle.reading.proofs.Outcomes.{accepted-placed}
-use Rattle.traces.specs.Input.{tableBytes, tableText, choiceLines, goodChoice, badChoice, choicesIn}
+use Rattle.reading.proofs.ReadGood.{table-length, read-good}
+use Rattle.traces.proofs.Parts.{read-told, read-table}
+use Rattle.traces.specs.Input.{tableBytes, tableText, goodChoice, badChoice, choicesIn}
+use Rattle.demands.specs.Demand2.{Table}
+use Rattle.demands.specs.Traces.{AcceptedText, wordsOf}
 use Rattle.demands.proofs.Parsed.{line-first}
 use Rattle.demands.proofs.Small.{Word, Small, small-nil, small-cons, small-zeros, small-set, small-sets}
+
+-- ---- what it reads to
+
+module _ (text : List ℕ) (ok : AcceptedText text) where
+  abbrev blank : List ℕ
+  blank = replicate tableWords 0
+
+  blank-length : length blank ≡ tableWords
+  blank-length = length-replicate {A = ℕ} tableWords 0
+
+  pub frames-accepted : framesReply (framesOf text) .reply ≡ 0
+  frames-accepted = ap (λ (q : Told). q .reply) (sym (read-told text blank blank-length)) ∙ ok
+
+  pub words-read : wordsOf text ≡ tableOf (framesOf text)
+  words-read = read-table text blank blank-length frames-accepted
+
+  pub table-read : Table (tableOf (framesOf text))
+  table-read = record { long = table-length (framesOf text); good = read-good text frames-accepted }
 
 -- ---- the words in a line
 

@@ -2,19 +2,18 @@
 use mathlib.Core.Path.{_≡_, refl, sym, ap, _∙_}
 use mathlib.Core.Bool.{Bool, true, false}
 use mathlib.Core.List.{List, [], _∷_, _++_, append-assoc}
-use Prim.Native.Nat.{ℕ, zero, suc, _+_, _*_, _%_, _^_, _≤_, _<_}
+use Prim.Native.Nat.{ℕ, zero, suc, _+_, _%_, _≤_, _<_}
 use native.Mathlib.Omega.{arith}
 use lib.Dec.{ltb}
-use lib.ListN.{length, take, drop, replicate, length-replicate}
+use lib.ListN.{length, replicate, length-replicate}
 use lib.Seq.{take-all, take-append-seam}
 use borrow.Author.Tests.{lt-ltb, le-ltb, ltb-true, ltb-false}
-use Rattle.tables.specs.Layout.{agents, tableWords}
+use Rattle.tables.specs.Layout.{tableWords}
 use Rattle.tables.specs.Lines.{lines}
 use Rattle.tables.specs.Frames.{Frame, framesOf}
 use Rattle.tables.proofs.Good.{few, few-rows}
 use Rattle.reading.specs.Reader.{framesReply, tableOf}
 use Rattle.reading.specs.declared.Told.{Told}
-use Rattle.reading.proofs.ReadGood.{table-length, read-good}
 use Rattle.choices.specs.declared.Agent.{Agent}
 use Rattle.choices.specs.State.{agentAt, stateWords, startWords, regPlace}
 use Rattle.choices.specs.Step.{choiceReply, accepted}
@@ -25,20 +24,20 @@ use Rattle.executive.specs.Calls.{tablePart, pastState, before, runRefusal, run
 use Rattle.executive.proofs.Runs.{run-go, run-stop}
 use Rattle.executive.proofs.Fitting.{fits-says}
 use Rattle.executive.proofs.OneByOne.{ran}
-use Rattle.traces.specs.Input.{longestInput, tableText, choiceLines, badChoiceOf, badChoice, choicesIn}
+use Rattle.traces.specs.Input.{longestInput, tableText, choiceLines, badChoiceOf, choicesIn}
 use Rattle.traces.specs.Output.{Traced, traced, after, stepLine, lastLine, traceFrom, traceOf}
-use Rattle.traces.specs.Calls.{TraceOutcome, longestOutput, written, traceInto}
+use Rattle.traces.specs.Calls.{longestOutput, written, traceInto}
 use Rattle.traces.proofs.Steps.{trace-go, trace-stop}
-use Rattle.traces.proofs.Parts.{read-told, read-table, trace-long, trace-refused, trace-malformed, trace-steps}
+use Rattle.traces.proofs.Parts.{read-told, trace-long, trace-refused, trace-malformed, trace-steps}
 use Rattle.demands.specs.Demand2.{Table, Fitting}
 use Rattle.demands.specs.Steps.{Step, step, stepsFrom, stepsInRun}
-use Rattle.demands.specs.Traces.{stepsShown, bytesOf, traceSteps, tableIn, choicesOfInput, InputAccepted, stepLines, IsRun, TraceIsRun, ElseNoStep}
+use Rattle.demands.specs.Traces.{stepsShown, bytesOf, traceSteps, choicesOfInput, InputAccepted, stepLines, IsRun, TraceIsRun, ElseNoStep}
 use Rattle.demands.proofs.Demand2.{choice-is-models, start-is-models}
 use Rattle.demands.proofs.Made.{steps-go, steps-stop}
 use Rattle.demands.proofs.Lent.{begins-by, begun-whole}
 use Rattle.demands.proofs.Parsed.{AllPlain, shown-back, last-shows}
-use Rattle.demands.proofs.Small.{Word, Small, small-take, small-drop, small-tail, accepted-small, start-small}
-use Rattle.demands.proofs.TableText.{read-small, choices-small}
+use Rattle.demands.proofs.Small.{Small, small-take, small-drop, small-tail, accepted-small, start-small}
+use Rattle.demands.proofs.TableText.{frames-accepted, words-read, table-read, read-small, choices-small}
 
 -- ---- the text of a run
 
@@ -140,17 +139,11 @@ module _ (input out : List ℕ) (ok : InputAccepted input out) where
   abbrev choices : List ℕ
   choices = choicesOfInput input
 
-  blank-length : length {A = ℕ} (replicate tableWords 0) ≡ tableWords
-  blank-length = length-replicate {A = ℕ} tableWords 0
-
   read : framesReply frames .reply ≡ 0
-  read = ap (λ (q : Told). q .reply) (sym (read-told (tableText input) (replicate tableWords 0) blank-length)) ∙ ok .table
+  read = frames-accepted (tableText input) (ok .table)
 
-  pub words-read : tableIn input ≡ rules
-  words-read = read-table (tableText input) (replicate tableWords 0) blank-length read
-
-  pub good-rules : Table rules
-  good-rules = record { long = table-length frames; good = read-good (tableText input) read }
+  table : Table rules
+  table = table-read (tableText input) (ok .table)
 
   text-is : traceOf input ≡ traced (runFrom rules (startWords rules) 0 choices .reply)
       (stepLines (stepsFrom rules (startWords rules) choices) ++ lastLine (runFrom rules (startWords rules) 0 choices .reply) (runFrom rules (startWords rules) 0 choices .count))
@@ -160,7 +153,7 @@ module _ (input out : List ℕ) (ok : InputAccepted input out) where
   unfolding badChoiceOf
   all-plain =
       let small = read-small (tableText input) read in
-      steps-plain rules good-rules small choices (startWords rules) (start-is-models rules good-rules .0) (start-small rules small)
+      steps-plain rules table small choices (startWords rules) (start-is-models rules table .0) (start-small rules small)
       (choices-small (choiceLines input) _ (omega arith) (ok .choices))
 
   -- the steps that it shows are those of the run
@@ -171,11 +164,11 @@ module _ (input out : List ℕ) (ok : InputAccepted input out) where
 
   module _ (st : List ℕ) (long : stateWords ≤ length st) where
     whole : tablePart rules ≡ rules
-    whole = take-all tableWords rules (omega (arith, good-rules .long))
+    whole = take-all tableWords rules (omega (arith, table .long))
 
     begins : runRefusal rules st choices ≡ 0
-    begins = begins-by rules st choices (le-ltb (length rules) tableWords (omega (arith, good-rules .long))) (le-ltb (length st) stateWords long)
-        (choices-even (choiceLines input)) (rw whole (good-rules .good))
+    begins = begins-by rules st choices (le-ltb (length rules) tableWords (omega (arith, table .long))) (le-ltb (length st) stateWords long)
+        (choices-even (choiceLines input)) (rw whole (table .good))
 
     run-is : runInto rules st choices ≡ before (runFrom rules (startWords rules) 0 choices) (pastState st)
     run-is = ran rules st choices begins ∙ ap (λ (x : List ℕ). before (runFrom x (startWords x) 0 choices) (pastState st)) whole
@@ -190,13 +183,13 @@ module _ (input out : List ℕ) (ok : InputAccepted input out) where
       reply = long-reply input out (ok .room)
           ∙ ap (λ (q : Traced). q .reply) text-is
           ∙ ap (λ (q : RunOutcome). q .reply) (sym run-is)
-          ∙ ap (λ (tb : List ℕ). runInto tb st choices .reply) (sym words-read);
+          ∙ ap (λ (tb : List ℕ). runInto tb st choices .reply) (sym (words-read (tableText input) (ok .table)));
       bytes = long-bytes input out (ok .room)
           ∙ ap (λ (q : Traced). q .bytes) text-is
           ∙ ap (λ (ss : List Step). stepLines ss ++ lastLine (runFrom rules (startWords rules) 0 choices .reply) (runFrom rules (startWords rules) 0 choices .count)) (sym steps-are)
           ∙ ap (λ (q : RunOutcome). stepLines (stepsInRun rules st choices) ++ lastLine (q .reply) (q .count)) (sym run-is)
-          ∙ ap (λ (tb : List ℕ). stepLines (stepsInRun tb st choices) ++ lastLine (runInto tb st choices .reply) (runInto tb st choices .count)) (sym words-read);
-      steps = shown-steps ∙ sym steps-are ∙ ap (λ (tb : List ℕ). stepsInRun tb st choices) (sym words-read);
+          ∙ ap (λ (tb : List ℕ). stepLines (stepsInRun tb st choices) ++ lastLine (runInto tb st choices .reply) (runInto tb st choices .count)) (sym (words-read (tableText input) (ok .table)));
+      steps = shown-steps ∙ sym steps-are ∙ ap (λ (tb : List ℕ). stepsInRun tb st choices) (sym (words-read (tableText input) (ok .table)));
     }
 
 pub trace-is-run : TraceIsRun

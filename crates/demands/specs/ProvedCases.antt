@@ -1,7 +1,7 @@
 -- The proved table: the cases P1 to P12 of 01, as one list with one statement, from the text of a table to the reply and the agents' states.
 -- The cases' numbers are written from 01; nothing here is taken from a run. Assumes nothing.
 use mathlib.Core.Bool.{Bool, true, _&&_}
-use mathlib.Core.List.{List, [], _∷_, _++_, map}
+use mathlib.Core.List.{List, [], _∷_, _++_}
 use Prim.Native.Nat.{ℕ, zero, suc, _+_, _/_}
 use lib.Dec.{eqb, T}
 use lib.ListN.{getD, length, take, drop, replicate}

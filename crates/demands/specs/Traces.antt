@@ -45,9 +45,16 @@ shows input out b = comesTo b (traceSteps input out)
 
 -- ---- a trace is its run
 
+-- a text that `read` accepts, and the words that it reads to
+abbrev pub AcceptedText : List ℕ → Type 0
+AcceptedText text = readInto text (replicate tableWords 0) .told .reply ≡ 0
+
+abbrev pub wordsOf : List ℕ → List ℕ
+wordsOf text = readInto text (replicate tableWords 0) .table
+
 -- the words of the table that an input begins with, and its choices
 abbrev pub tableIn : List ℕ → List ℕ
-tableIn input = readInto (tableText input) (replicate tableWords 0) .table
+tableIn input = wordsOf (tableText input)
 
 abbrev pub choicesOfInput : List ℕ → List ℕ
 choicesOfInput input = choicesIn (choiceLines input)
@@ -56,7 +63,7 @@ choicesOfInput input = choicesIn (choiceLines input)
 pub record InputAccepted (input out : List ℕ) : Type 0 where
   pub room : longestOutput ≤ length out
   pub short : length input ≤ longestInput
-  pub table : readInto (tableText input) (replicate tableWords 0) .told .reply ≡ 0
+  pub table : AcceptedText (tableText input)
   pub choices : badChoiceOf input ≡ 0
 
 -- the lines of some steps
@@ -79,13 +86,6 @@ abbrev pub ElseNoStep : Type 0
 ElseNoStep = (input out : List ℕ) → (InputAccepted input out → ⊥) → traceSteps input out ≡ []
 
 -- ---- two traces of one table
-
--- a text that `read` accepts, and the words that it reads to
-abbrev pub AcceptedText : List ℕ → Type 0
-AcceptedText text = readInto text (replicate tableWords 0) .told .reply ≡ 0
-
-abbrev pub wordsOf : List ℕ → List ℕ
-wordsOf text = readInto text (replicate tableWords 0) .table
 
 -- For any two inputs that begin with the same accepted table text, whatever follows it and whatever buffers the outputs are written to: the states that one output
 -- shows of an agent begin those that the other shows, or the reverse.
