@@ -117,6 +117,9 @@ fn main() -> ExitCode {
     let words: Vec<String> = std::env::args().skip(1).collect();
     let words: Vec<&str> = words.iter().map(String::as_str).collect();
     let done = match words[..] {
+        _ if cfg!(not(target_arch = "x86_64")) => {
+            Err("the archive is for x86-64: under an emulator its times say nothing".to_string())
+        }
         [] => {
             print_all();
             Ok(())

@@ -1,14 +1,32 @@
 //! The proved library and the trace program as a board.
 
+use std::ffi::OsStr;
 use std::io::{ErrorKind, Write};
 use std::path::{Path, PathBuf};
 use std::process::{Command, Stdio};
 
 use cases::Board;
 
-/// The archive, which is linked in, and the trace program beside it.
+/// The archive, which the crate `tannoplex` calls, and the trace program beside it.
 pub struct Archive {
+    /// What is put before the trace program to run it: nothing, or an emulator with its words.
+    runner: Vec<String>,
     trace: PathBuf,
+}
+
+/// The words before a program for x86-64.
+fn runner() -> Result<Vec<String>, String> {
+    if cfg!(target_arch = "x86_64") {
+        return Ok(Vec::new());
+    }
+    let tool = Path::new(env!("CARGO_MANIFEST_DIR")).join("../../tools/x86");
+    let told = Command::new(tool).arg("runner").stderr(Stdio::inherit()).output();
+    match told {
+        Ok(told) if told.status.success() => {
+            Ok(String::from_utf8_lossy(&told.stdout).lines().map(str::to_string).collect())
+        }
+        _ => Err("tools/x86 names no emulator for target/bin/trace".to_string()),
+    }
 }
 
 impl Archive {
@@ -19,7 +37,7 @@ impl Archive {
                         `rt check trace` at the root of the repository."
                 .to_string());
         }
-        Ok(Archive { trace })
+        Ok(Archive { runner: runner()?, trace })
     }
 }
 
@@ -47,7 +65,9 @@ impl Board for Archive {
     }
 
     fn trace(&self, input: &[u8]) -> Vec<u8> {
-        let mut program = Command::new(&self.trace)
+        let mut words = self.runner.iter().map(OsStr::new).chain([self.trace.as_os_str()]);
+        let mut program = Command::new(words.next().expect("the program"))
+            .args(words)
             .stdin(Stdio::piped())
             .stdout(Stdio::piped())
             .spawn()
@@ -63,6 +83,13 @@ impl Board for Archive {
             program.wait_with_output().expect("the trace program's output")
         });
         assert!(output.status.success(), "the trace program: {}", output.status);
+
+        // The archive's trace gives the same, and leaves what stands after it.
+        let mut out = vec![b'*'; tannoplex::TRACE_OUTPUT_BYTES + 1];
+        let traced = tannoplex::trace(input, &mut out);
+        let (text, rest) = out.split_at(traced.length);
+        let same = text == output.stdout && rest.iter().all(|&byte| byte == b'*');
+        assert!(same, "the archive's trace and the trace program differ on input {input:?}");
         output.stdout
     }
 }

@@ -24,6 +24,11 @@ pub struct Traced {
     pub length: usize,
 }
 
+/// The archive is for x86-64: elsewhere it is called in an emulated process.
+#[cfg(not(target_arch = "x86_64"))]
+pub use crate::emulated::*;
+
+#[cfg(target_arch = "x86_64")]
 extern "C" {
     pub fn tannoplex_read(
         text: *const u8,

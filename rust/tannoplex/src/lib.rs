@@ -31,6 +31,8 @@
 #![warn(missing_docs)]
 
 mod archive;
+#[cfg(not(target_arch = "x86_64"))]
+mod emulated;
 mod reply;
 
 pub use reply::Reply;

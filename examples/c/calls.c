@@ -1,0 +1,82 @@
+/*
+ * Each call once accepted and once refused, through the header: that its names, types and results
+ * are those of the archive. Prints one line, or fails at the first difference.
+ *
+ * One agent sends its register 0, which is 5, and another receives it in register 1.
+ */
+#include <stdio.h>
+#include <stdlib.h>
+#include <string.h>
+
+#include "tannoplex.h"
+
+#define TABLE                                                                                      \
+    "000000000005000000000000000000000000\n"                                                       \
+    "010020000000000000070000000100000003\n"                                                       \
+    "000100000000000000000000000000000000\n"                                                       \
+    "010130010000000000070000000400000008\n"                                                       \
+    "FF\n"
+#define CHOICES "020000000003\n020100000004\n"
+#define OUTPUT                                                                                     \
+    "0300010000000300000005000000000000000000000000\n"                                             \
+    "0301010000000400000000000000050000000000000000\n"                                             \
+    "FE000002\n"
+
+static const uint8_t text[] = TABLE, input[] = TABLE CHOICES;
+static const uint32_t choices[] = {0, 3, 1, 4, 1, 4};
+static uint32_t table[TANNOPLEX_TABLE_WORDS];
+static uint32_t state[TANNOPLEX_STATE_WORDS], stepped[TANNOPLEX_STATE_WORDS];
+static uint8_t out[TANNOPLEX_TRACE_OUTPUT_BYTES];
+
+static void expect(int good, const char *what)
+{
+    if (!good) {
+        fprintf(stderr, "calls: %s\n", what);
+        exit(1);
+    }
+}
+
+int main(void)
+{
+    const size_t words = TANNOPLEX_TABLE_WORDS, state_words = TANNOPLEX_STATE_WORDS;
+
+    tannoplex_told told = tannoplex_read(text, sizeof text - 2, table, words);
+    expect(told.reply == TANNOPLEX_MALFORMED_LINE && told.line == 5, "read, no last newline");
+    told = tannoplex_read(text, sizeof text - 1, table, words);
+    expect(told.reply == TANNOPLEX_ACCEPTED && told.line == 0 && table[0] == 2, "read");
+
+    expect(tannoplex_check(table, words - 1) == TANNOPLEX_BUFFER_TOO_SHORT, "check, too short");
+    expect(tannoplex_check(table, words) == TANNOPLEX_ACCEPTED, "check");
+
+    expect(tannoplex_start(table, words, stepped, state_words - 1) == TANNOPLEX_BUFFER_TOO_SHORT,
+           "start, too short");
+    expect(tannoplex_start(table, words, stepped, state_words) == TANNOPLEX_ACCEPTED &&
+               stepped[TANNOPLEX_STATE_CLOCK] == 1 && stepped[TANNOPLEX_STATE_REGISTERS] == 5,
+           "start");
+
+    expect(tannoplex_step(table, words, stepped, state_words, 1, 4) == TANNOPLEX_TIME_ABOVE_LATE,
+           "step, above the other agent's late");
+    for (int i = 0; i < 4; i += 2) {
+        expect(tannoplex_step(table, words, stepped, state_words, choices[i], choices[i + 1]) ==
+                   TANNOPLEX_ACCEPTED,
+               "step");
+    }
+    expect(stepped[TANNOPLEX_STATE_REGISTERS + TANNOPLEX_REGISTERS + 1] == 5, "what was received");
+
+    tannoplex_ran ran = tannoplex_run(table, words, state, state_words, choices, 6);
+    expect(ran.reply == TANNOPLEX_AGENT_ENDED && ran.count == 2, "run, one choice too many");
+    memset(state, 0xFF, sizeof state);
+    ran = tannoplex_run(table, words, state, state_words, choices, 4);
+    expect(ran.reply == TANNOPLEX_ACCEPTED && ran.count == 2, "run");
+    expect(memcmp(state, stepped, sizeof state) == 0, "the states of the run and of its steps");
+
+    tannoplex_traced traced = tannoplex_trace(input, sizeof input - 1, out, sizeof out - 1);
+    expect(traced.reply == TANNOPLEX_BUFFER_TOO_SHORT && traced.length == 0, "trace, too short");
+    traced = tannoplex_trace(input, sizeof input - 1, out, sizeof out);
+    expect(traced.reply == TANNOPLEX_ACCEPTED && traced.length == sizeof OUTPUT - 1 &&
+               memcmp(out, OUTPUT, sizeof OUTPUT - 1) == 0,
+           "trace");
+
+    printf("the six calls answer through the header as they must\n");
+    return 0;
+}
