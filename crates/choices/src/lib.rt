@@ -1,4 +1,5 @@
 // One choice of a good table: its reply, and what the accepted one does to the words of a state.
+pub mod layout; // layout.rt: where each thing stands in the words of a state
 mod agents; // agents.rt: what a row does to its agent, one method for each family
 mod messages; // messages.rt: the best of the messages that a row sees
 pub mod deadlines; // deadlines.rt: the deadline of all agents, and whether any agent can go

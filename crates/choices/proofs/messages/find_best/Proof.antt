@@ -26,8 +26,8 @@ Inv-agents table state r n m₀ next₀ b₀ m next b = (b ≤ n) × (b ≤ 16) 
 abbrev μ-agents : tie.MeasureT-agents
 μ-agents table state r n m₀ next₀ b₀ m next b = 16 - b
 
-shared-slice-read-n : tie.Need-shared-slice-read-n Inv-loop μ-loop Inv-agents μ-agents
-shared-slice-read-n c = omega arith
+agent-count-requires : tie.Need-agent-count-requires Inv-loop μ-loop Inv-agents μ-agents
+agent-count-requires c κs = omega arith
 
 cast-n : tie.Need-cast-n Inv-loop μ-loop Inv-agents μ-agents
 cast-n c = omega arith
@@ -122,7 +122,7 @@ find-best-spec =
     μ-loop
     Inv-agents
     μ-agents
-    shared-slice-read-n
+    agent-count-requires
     cast-n
     agents-holds
     loop-holds
