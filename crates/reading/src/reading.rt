@@ -16,6 +16,7 @@ use tables::words::clear;
 use tables::words::copy;
 ghost use mathlib.Core.Path.{_≡_};
 ghost use mathlib.Core.Bool.{true};
+ghost use mathlib.Core.List.{_++_};
 ghost use Prim.Native.Nat.{_≤_};
 ghost use lib.ListN.{length, drop};
 ghost use Rattle.tables.specs.Frames.{framesOf};
@@ -110,6 +111,14 @@ fn blank_table() -> [u32; TABLE_WORDS]
     [0; TABLE_WORDS]
 }
 
+// The words of a table take the place of the lent ones; those past them stay.
+fn put_table(words: &[u32], table: &mut [u32])
+    requires { ⌜ (length (now words) ≡ tableWords) × (tableWords ≤ length (now table)) ⌝ }
+    ensures { λ _. ⌜ now (table .exit) ≡ now (words .entry) ++ drop tableWords (now (table .entry)) ⌝ }
+{
+    copy(words, &mut table[..TABLE_WORDS]);
+}
+
 // Reads a table's text into the lent words: the reply, with its line. They are written only once every row is accepted.
 pub fn read(text: &[u8], table: &mut [u32]) -> Told
     ensures { λ r. ⌜ Read (now (text .entry)) (now (table .entry)) r (now (table .exit)) ⌝ }
@@ -129,6 +138,6 @@ pub fn read(text: &[u8], table: &mut [u32]) -> Told
     if good.reply != ACCEPTED {
         return good;
     }
-    copy(&words, &mut table[..TABLE_WORDS]);
+    put_table(&words, table);
     good
 }
