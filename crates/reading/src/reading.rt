@@ -3,8 +3,12 @@ use crate::Told;
 use crate::loading::put_agent;
 use crate::loading::put_row;
 use crate::placing::in_place;
+use tables::frames::FIRST_WORD;
+use tables::frames::FOURTH_WORD;
 use tables::frames::FRAME_BYTES;
 use tables::frames::Line;
+use tables::frames::SECOND_WORD;
+use tables::frames::THIRD_WORD;
 use tables::frames::sound_line;
 use tables::frames::word;
 use tables::layout::TABLE_WORDS;
@@ -74,10 +78,10 @@ fn take_rows(text: &[u8], table: &mut [u32]) -> Told
                 late = 0;
             }
             Line::Gives(_) => {
-                let code = word(text, p, 4);
-                let k = word(text, p, 12);
-                let from = word(text, p, 20);
-                let to = word(text, p, 28);
+                let code = word(text, p, FIRST_WORD);
+                let k = word(text, p, SECOND_WORD);
+                let from = word(text, p, THIRD_WORD);
+                let to = word(text, p, FOURTH_WORD);
                 let row = row_of(code, k, from, to);
                 let reply = row_reply(row, i as u32, c, early, late);
                 if reply != ACCEPTED {
