@@ -1,20 +1,19 @@
 -- Frames that are in their places: the bounds that hold at each of them. Assumes nothing.
 use mathlib.Core.Path.{_≡_, refl, sym, ap, subst, _∙_}
-use mathlib.Core.Bool.{Bool, true, false, _&&_, _||_, cond, false≢true}
+use mathlib.Core.Bool.{Bool, true, false}
 use mathlib.Core.List.{List, [], _∷_}
 use Prim.Native.Nat.{ℕ, _+_, _*_, _≤_, _<_}
 use native.Mathlib.Omega.{arith}
-use lib.Dec.{ltb, eqb}
-use borrow.Author.Tests.{eqb-true, ltb-true}
+use lib.Dec.{eqb}
 use lib.ListN.{length, drop}
+use Rattle.tables.specs.Basics.{first}
 use Rattle.tables.specs.Frames.{Frame, opens, gives, ends, malformed, framesOf}
 use Rattle.tables.specs.Heads.{lineAt, wordsAt}
-use Rattle.reading.specs.Reader.{told, noneLeft, inPlace, rowsNext}
+use Rattle.reading.specs.Reader.{endRules, inPlace, rowsNext}
 use Rattle.reading.specs.declared.Told.{Told}
 use Rattle.tables.specs.declared.frames.Line.the-variants.{Opens, Gives}
 use Rattle.tables.proofs.Heads.{Framed, framed}
-use Rattle.tables.proofs.Passed.{and-1, and-2}
-use Rattle.reading.proofs.Places.{mayOpen, mayGive, open-room, give-room, place-open, place-open-not, place-give, place-give-not}
+use Rattle.reading.proofs.Places.{mayOpen, mayGive, open-room, open-after-rows, give-open, give-room, place-open, place-open-not, place-give, place-give-not, place-end-not, end-rows}
 
 -- frames that are in their places from line n on, after a agents of which the last has i rows
 pub record Placed (n a i : ℕ) (fs : List Frame) : Type 0 where
@@ -59,19 +58,14 @@ module _ (n a i b : ℕ) (ws : List ℕ) (fs : List Frame) where
 
   -- the agent before has rows
   pub open-rows : Placed n a i (opens b ws ∷ fs) → 0 < a → 0 < i
-  open-rows q h = go (eqb a 0) (ltb 0 i) refl refl (and-2 (eqb b a && ltb a 16) (eqb a 0 || ltb 0 i) (open-may q))
-    where
-      go : (z s : Bool) → eqb a 0 ≡ z → ltb 0 i ≡ s → (z || s) ≡ true → 0 < i
-      go true s e f k = let y = eqb-true a 0 e in absurd (omega arith)
-      go false true e f k = ltb-true 0 i f
-      go false false e f k = absurd (false≢true k)
+  open-rows q = open-after-rows b a i (open-may q)
 
   -- a further row of the open agent: there is room for it
   pub give-row : Placed n a i (gives b ws ∷ fs) → i < 32
   give-row q = give-room b a i (give-may q)
 
   pub give-agent : Placed n a i (gives b ws ∷ fs) → b + 1 ≡ a
-  give-agent q = eqb-true (b + 1) a (and-1 (eqb (b + 1) a) (ltb i 32) (give-may q))
+  give-agent q = give-open b a i (give-may q)
 
   pub give-on : Placed n a i (gives b ws ∷ fs) → Placed (n + 1) a (i + 1) fs
   give-on q =
@@ -87,12 +81,11 @@ module _ (n a i b : ℕ) (ws : List ℕ) (fs : List Frame) where
 
 -- the last agent has rows
 pub ends-rows : (n a i : ℕ) (fs : List Frame) → Placed n a i (ends ∷ fs) → 0 < i
-unfolding inPlace
-ends-rows n a i fs q = go (ltb 0 i) refl (q .placed)
+ends-rows n a i fs q = go (eqb (first (endRules a i)) 0) refl
   where
-    go : (s : Bool) → ltb 0 i ≡ s → cond s (cond (noneLeft fs) (told 0 0) (told 3 (n + 1))) (told 3 n) .reply ≡ 0 → 0 < i
-    go true f h = ltb-true 0 i f
-    go false f h = absurd (omega arith)
+    go : (t : Bool) → eqb (first (endRules a i)) 0 ≡ t → 0 < i
+    go true e = end-rows n a i fs e
+    go false e = let z = ap (λ (t : Told). t .reply) (sym (place-end-not n a i fs e)) ∙ q .placed in absurd (omega arith)
 
 -- an agent has at most 32 rows
 pub rows-fit : (fs : List Frame) (n a i : ℕ) → Placed n a i fs → i + rowsNext fs ≤ 32

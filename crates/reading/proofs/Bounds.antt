@@ -1,21 +1,21 @@
 -- The numbers that `read` replies with are small: a reply up to 7, a line up to 562, so that two bytes hold the line. Assumes nothing.
 use mathlib.Core.Path.{_≡_, refl, sym, ap, subst}
-use mathlib.Core.Bool.{Bool, true, false, cond}
+use mathlib.Core.Bool.{Bool, true, false, not, cond}
 use mathlib.Core.List.{List, [], _∷_}
 use Prim.Native.Nat.{ℕ, zero, suc, _+_, _*_, _≤_}
 use native.Mathlib.Omega.{arith}
-use lib.Dec.{T, leb, ltb, leb→le}
+use lib.Dec.{T, eqb, leb, ltb, leb→le}
 use lib.ListN.{length}
 use borrow.Author.Tests.{ltb-true, ltb-false}
 use Rattle.tables.specs.Basics.{first, _⇒_, Rule}
 use Rattle.tables.specs.Rows.{rowReply}
 use Rattle.tables.specs.Frames.{Frame, opens, gives, ends, malformed, framesOf}
-use Rattle.reading.specs.Reader.{told, noneLeft, inPlace, rowsNext, rowIn, rowsGood, framesReply}
+use Rattle.reading.specs.Reader.{told, noneLeft, endRules, toldBy, inPlace, rowsNext, rowIn, rowsGood, framesReply}
 use Rattle.tables.specs.Layout.{tableWords}
 use Rattle.reading.specs.Calls.{Read, ReadOutcome, readInto}
 use Rattle.tables.specs.declared.Row.{Row}
 use Rattle.reading.specs.declared.Told.{Told}
-use Rattle.reading.proofs.Places.{mayOpen, mayGive, open-room, give-room, place-open, place-open-not, place-give, place-give-not}
+use Rattle.reading.proofs.Places.{mayOpen, mayGive, open-room, give-room, place-open, place-open-not, place-give, place-give-not, place-end, place-end-not}
 use Rattle.reading.proofs.Accepted.{Placed, placed-first, open-on, give-on}
 use Rattle.reading.proofs.RowsRead.{good-row, bad-row}
 use Rattle.reading.proofs.Outcomes.{misplaced, in-places, short-table, read-told}
@@ -28,7 +28,7 @@ small : (r n : ℕ) → r ≤ 7 → n ≤ 562 → Small (told r n)
 small r n h k = record { reply = h; line = k }
 
 place-small : (fs : List Frame) (n a i : ℕ) → a ≤ 16 → i ≤ 32 → n ≤ 33 * a + i + 1 → Small (inPlace n a i fs)
-unfolding inPlace
+unfolding inPlace first
 place-small [] n a i h k l = small 3 n (omega arith) (omega arith)
 place-small (malformed ∷ fs) n a i h k l = small 2 n (omega arith) (omega arith)
 place-small (opens b ws ∷ fs) n a i h k l = go (mayOpen b a i) refl (λ m. place-small fs (n + 1) (a + 1) 0 (omega arith) (omega arith) (omega arith))
@@ -41,12 +41,15 @@ place-small (gives b ws ∷ fs) n a i h k l = go (mayGive b a i) refl (λ m. pla
     go : (t : Bool) → mayGive b a i ≡ t → (i + 1 ≤ 32 → Small (inPlace (n + 1) a (i + 1) fs)) → Small (inPlace n a i (gives b ws ∷ fs))
     go true e rec = subst Small (sym (place-give n a i b ws fs e)) (rec (omega (arith, give-room b a i e)))
     go false e rec = subst Small (sym (place-give-not n a i b ws fs e)) (small 3 n (omega arith) (omega arith))
-place-small (ends ∷ fs) n a i h k l = go (ltb 0 i) (noneLeft fs)
+place-small (ends ∷ fs) n a i h k l = go (eqb (first (endRules a i)) 0) refl
   where
-    go : (s o : Bool) → Small (cond s (cond o (told 0 0) (told 3 (n + 1))) (told 3 n))
-    go true true = small 0 0 (omega arith) (omega arith)
-    go true false = small 3 (n + 1) (omega arith) (omega arith)
-    go false o = small 3 n (omega arith) (omega arith)
+    past : (o : Bool) → Small (toldBy ((not o ⇒ 3) ∷ []) (n + 1))
+    past true = small 0 0 (omega arith) (omega arith)
+    past false = small 3 (n + 1) (omega arith) (omega arith)
+
+    go : (t : Bool) → eqb (first (endRules a i)) 0 ≡ t → Small (inPlace n a i (ends ∷ fs))
+    go true e = subst Small (sym (place-end n a i fs e)) (past (noneLeft fs))
+    go false e = subst Small (sym (place-end-not n a i fs e)) (small 3 n (omega arith) (omega arith))
 
 -- the numbers of some rules are at most 7
 abbrev upTo7 : List Rule → Bool

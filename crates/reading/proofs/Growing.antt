@@ -7,7 +7,7 @@ use native.Mathlib.Omega.{arith}
 use lib.ListN.{length, getD, set, length-set}
 use lib.Seq.{sets, length-sets, getD-set-same, getD-set-other}
 use borrow.Author.Count.{below-more}
-use Rattle.tables.specs.Layout.{agents, rows, row, rowPlace, startPlace, tableWords}
+use Rattle.tables.specs.Layout.{agentsPlace, agents, countPlace, rows, row, rowPlace, startPlace, tableWords}
 use Rattle.tables.specs.Rows.{rowReply}
 use Rattle.tables.specs.Table.{earlyBefore, lateBefore, rowReplyAt}
 use Rattle.tables.specs.Lines.{same}
@@ -66,7 +66,7 @@ agent-same tb other a n same f =
 pub record Closed (tb : List ℕ) (a : ℕ) : Type 0 where
   pub words : length tb ≡ tableWords
   pub done : (b : ℕ) → b < a → AgentFacts tb b
-  pub counts-past : Zero tb (1 + a) 17
+  pub counts-past : Zero tb (countPlace a) 17
   pub registers-past : Zero tb (startPlace a) 81
   pub rows-past : Zero tb (rowPlace a 0) tableWords
 
@@ -79,34 +79,34 @@ pub record Open (tb : List ℕ) (b i c e l : ℕ) : Type 0 where
   pub pass : (j : ℕ) → j < i → replyIn tb b c j ≡ 0
   pub early : earlyBefore tb b i ≡ e
   pub late : lateBefore tb b i ≡ l
-  pub counts-past : Zero tb (2 + b) 17
+  pub counts-past : Zero tb (countPlace (b + 1)) 17
   pub registers-past : Zero tb (startPlace (b + 1)) 81
   pub rows-past : Zero tb (rowPlace b i) tableWords
 
 -- an agent is opened
 module _ (tb : List ℕ) (b : ℕ) (ws : List ℕ) (t : Closed tb b) (room : b < 16) (four : length ws ≡ 4) where
   unfoldable pub after-open : List ℕ
-  after-open = sets (set tb 0 (b + 1)) (startPlace b) ws
+  after-open = sets (set tb agentsPlace (b + 1)) (startPlace b) ws
 
   open-below : (k : ℕ) → 1 ≤ k → k < 17 → getD after-open k 0 ≡ getD tb k 0
   unfolding after-open
-  open-below k h l = sets-below (set tb 0 (b + 1)) (startPlace b) ws k (omega arith) ∙ getD-set-other tb 0 k (b + 1) 0 (λ e. omega arith)
+  open-below k h l = sets-below (set tb agentsPlace (b + 1)) (startPlace b) ws k (omega arith) ∙ getD-set-other tb agentsPlace k (b + 1) 0 (λ e. omega arith)
 
   open-above : (k : ℕ) → startPlace b + 4 ≤ k → getD after-open k 0 ≡ getD tb k 0
   unfolding after-open
-  open-above k h = sets-above (set tb 0 (b + 1)) (startPlace b) ws k (omega arith) ∙ getD-set-other tb 0 k (b + 1) 0 (λ e. omega arith)
+  open-above k h = sets-above (set tb agentsPlace (b + 1)) (startPlace b) ws k (omega arith) ∙ getD-set-other tb agentsPlace k (b + 1) 0 (λ e. omega arith)
 
   pub opened : (c : ℕ) → Open after-open b 0 c 0 0
   unfolding after-open earlyBefore lateBefore
   opened c = record {
-    words = length-sets (set tb 0 (b + 1)) (startPlace b) ws ∙ length-set tb 0 (b + 1) ∙ t .words;
+    words = length-sets (set tb agentsPlace (b + 1)) (startPlace b) ws ∙ length-set tb agentsPlace (b + 1) ∙ t .words;
     count =
-        sets-below (set tb 0 (b + 1)) (startPlace b) ws 0 (omega arith)
-        ∙ getD-set-same tb 0 (b + 1) 0 (omega (arith, t .words));
-    rows-now = open-below (1 + b) (omega arith) (omega arith) ∙ t .counts-past (1 + b) (omega arith) (omega arith);
+        sets-below (set tb agentsPlace (b + 1)) (startPlace b) ws 0 (omega arith)
+        ∙ getD-set-same tb agentsPlace (b + 1) 0 (omega (arith, t .words));
+    rows-now = open-below (countPlace b) (omega arith) (omega arith) ∙ t .counts-past (countPlace b) (omega arith) (omega arith);
     done =
         λ a h.
-        agent-same tb after-open a (open-below (1 + a) (omega arith) (omega arith)) (λ k g l. open-above k (omega arith)) (t .done a h);
+        agent-same tb after-open a (open-below (countPlace a) (omega arith) (omega arith)) (λ k g l. open-above k (omega arith)) (t .done a h);
     pass = λ j h. absurd (omega arith);
     early = refl;
     late = refl;
@@ -118,40 +118,38 @@ module _ (tb : List ℕ) (b : ℕ) (ws : List ℕ) (t : Closed tb b) (room : b <
 -- a row is given
 module _ (tb : List ℕ) (b i c e l : ℕ) (ws : List ℕ) (t : Open tb b i c e l) (room : b < 16) (below : i < 32) (four : length ws ≡ 4) where
   unfoldable pub after-give : List ℕ
-  after-give = sets (set tb (b + 1) (i + 1)) (rowPlace b i) ws
+  after-give = sets (set tb (countPlace b) (i + 1)) (rowPlace b i) ws
 
-  fits : rowPlace b i + length ws ≤ length (set tb (b + 1) (i + 1))
-  fits = let n = length-set tb (b + 1) (i + 1) in omega (arith, t .words)
+  fits : rowPlace b i + length ws ≤ length (set tb (countPlace b) (i + 1))
+  fits = let n = length-set tb (countPlace b) (i + 1) in omega (arith, t .words)
 
-  give-below : (k : ℕ) → (k ≡ b + 1 → ⊥) → k < rowPlace b i → getD after-give k 0 ≡ getD tb k 0
+  give-below : (k : ℕ) → (k ≡ countPlace b → ⊥) → k < rowPlace b i → getD after-give k 0 ≡ getD tb k 0
   unfolding after-give
-  give-below k n h = sets-below (set tb (b + 1) (i + 1)) (rowPlace b i) ws k h ∙ getD-set-other tb (b + 1) k (i + 1) 0 n
+  give-below k n h = sets-below (set tb (countPlace b) (i + 1)) (rowPlace b i) ws k h ∙ getD-set-other tb (countPlace b) k (i + 1) 0 n
 
   give-above : (k : ℕ) → rowPlace b i + 4 ≤ k → getD after-give k 0 ≡ getD tb k 0
   unfolding after-give
   give-above k h =
-      sets-above (set tb (b + 1) (i + 1)) (rowPlace b i) ws k (omega arith) ∙ getD-set-other tb (b + 1) k (i + 1) 0 (λ q. omega arith)
+      sets-above (set tb (countPlace b) (i + 1)) (rowPlace b i) ws k (omega arith) ∙ getD-set-other tb (countPlace b) k (i + 1) 0 (λ q. omega arith)
 
   rows-kept : (a : ℕ) (k : ℕ) → rowPlace a 0 ≤ k → k < rowPlace b i → getD after-give k 0 ≡ getD tb k 0
   rows-kept a k g h = give-below k (λ q. omega arith) h
 
   new-length : length after-give ≡ tableWords
   unfolding after-give
-  new-length = length-sets (set tb (b + 1) (i + 1)) (rowPlace b i) ws ∙ length-set tb (b + 1) (i + 1) ∙ t .words
+  new-length = length-sets (set tb (countPlace b) (i + 1)) (rowPlace b i) ws ∙ length-set tb (countPlace b) (i + 1) ∙ t .words
 
   new-count : rows after-give b ≡ i + 1
   unfolding after-give
   new-count =
-      let s : 1 + b ≡ b + 1 = omega arith in
-      sets-below (set tb (b + 1) (i + 1)) (rowPlace b i) ws (1 + b) (omega arith)
-      ∙ ap (λ (k : ℕ). getD (set tb (b + 1) (i + 1)) k 0) s
-      ∙ getD-set-same tb (b + 1) (i + 1) 0 (omega (arith, t .words))
+      sets-below (set tb (countPlace b) (i + 1)) (rowPlace b i) ws (countPlace b) (omega arith)
+      ∙ getD-set-same tb (countPlace b) (i + 1) 0 (omega (arith, t .words))
 
   new-row : row after-give b i ≡ rowIn ws
   unfolding after-give
   new-row =
       let at : (j k : ℕ) → k ≡ rowPlace b i + j → j < 4 → getD after-give k 0 ≡ getD ws j 0
-      = λ j k q h. sets-in (set tb (b + 1) (i + 1)) (rowPlace b i) ws j k q (omega arith) fits in
+      = λ j k q h. sets-in (set tb (countPlace b) (i + 1)) (rowPlace b i) ws j k q (omega arith) fits in
       rw (
         at 0 (rowPlace b i) (omega arith) (omega arith),
         at 1 (rowPlace b i + 1) refl (omega arith),
@@ -167,7 +165,7 @@ module _ (tb : List ℕ) (b i c e l : ℕ) (ws : List ℕ) (t : Open tb b i c e 
     rows-now = new-count;
     done =
         λ a h.
-        agent-same tb after-give a (give-below (1 + a) (λ q. omega arith) (omega arith)) (λ k g m. rows-kept a k g (omega arith)) (t .done a h);
+        agent-same tb after-give a (give-below (countPlace a) (λ q. omega arith) (omega arith)) (λ k g m. rows-kept a k g (omega arith)) (t .done a h);
     pass =
         below-more
         (λ (j : ℕ). replyIn after-give b c j ≡ 0)

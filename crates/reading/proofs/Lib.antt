@@ -9,4 +9,5 @@ pub mod Outcomes
 pub mod Stores
 pub mod Growing
 pub mod ReadGood
+pub mod Laws
 pub mod Bounds

@@ -6,7 +6,7 @@ use Prim.Native.Nat.{ℕ, _+_, _-_, _≤_}
 use native.Mathlib.Omega.{arith}
 use lib.ListN.{length, drop, set, replicate, length-set, length-replicate}
 use lib.Seq.{sets, length-sets}
-use Rattle.tables.specs.Layout.{tableWords, startPlace, rowPlace}
+use Rattle.tables.specs.Layout.{tableWords, agentsPlace, countPlace, startPlace, rowPlace}
 use Rattle.tables.specs.Frames.{Frame, opens, gives, ends, malformed, framesOf}
 use Rattle.tables.specs.Heads.{headLine, lineAt, wordsAt}
 use Rattle.reading.specs.Reader.{inPlace, loaded, tableOf}
@@ -34,7 +34,7 @@ first-words text tb n h k e =
     }
 
 module _ {text tb : List ℕ} {p a i : ℕ} (t : Filling text tb p a i) where
-  pub open-words : {b : ℕ} → lineAt text p ≡ Opens b → (after : List ℕ) → after ≡ sets (set tb 0 (a + 1)) (startPlace a) (wordsAt text p)
+  pub open-words : {b : ℕ} → lineAt text p ≡ Opens b → (after : List ℕ) → after ≡ sets (set tb agentsPlace (a + 1)) (startPlace a) (wordsAt text p)
       → Filling text after (p + 37) (a + 1) 0
   unfolding loaded
   open-words {b} o after e =
@@ -43,11 +43,11 @@ module _ {text tb : List ℕ} {p a i : ℕ} (t : Filling text tb p a i) where
         within = l .room;
         line = t .line + 1;
         placed = after-open text p (t .within) (t .placed) o;
-        words = ap length e ∙ length-sets (set tb 0 (a + 1)) (startPlace a) (wordsAt text p) ∙ length-set tb 0 (a + 1) ∙ t .words;
+        words = ap length e ∙ length-sets (set tb agentsPlace (a + 1)) (startPlace a) (wordsAt text p) ∙ length-set tb agentsPlace (a + 1) ∙ t .words;
         told = ap (λ (w : List ℕ). loaded w (a + 1) 0 (framesOf (drop (p + 37) text))) e ∙ sym (ap (loaded tb a i) (l .frames)) ∙ t .told;
       }
 
-  pub row-words : {b : ℕ} → lineAt text p ≡ Gives b → (after : List ℕ) → after ≡ sets (set tb a (i + 1)) (rowPlace (a - 1) i) (wordsAt text p)
+  pub row-words : {b : ℕ} → lineAt text p ≡ Gives b → (after : List ℕ) → after ≡ sets (set tb (countPlace (a - 1)) (i + 1)) (rowPlace (a - 1) i) (wordsAt text p)
       → Filling text after (p + 37) a (i + 1)
   unfolding loaded
   row-words {b} g after e =
@@ -56,7 +56,7 @@ module _ {text tb : List ℕ} {p a i : ℕ} (t : Filling text tb p a i) where
         within = l .room;
         line = t .line + 1;
         placed = after-give text p (t .within) (t .placed) g;
-        words = ap length e ∙ length-sets (set tb a (i + 1)) (rowPlace (a - 1) i) (wordsAt text p) ∙ length-set tb a (i + 1) ∙ t .words;
+        words = ap length e ∙ length-sets (set tb (countPlace (a - 1)) (i + 1)) (rowPlace (a - 1) i) (wordsAt text p) ∙ length-set tb (countPlace (a - 1)) (i + 1) ∙ t .words;
         told = ap (λ (w : List ℕ). loaded w a (i + 1) (framesOf (drop (p + 37) text))) e ∙ sym (ap (loaded tb a i) (l .frames)) ∙ t .told;
       }
 

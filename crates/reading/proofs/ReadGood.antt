@@ -7,7 +7,8 @@ use native.Mathlib.Omega.{arith}
 use lib.Dec.{eqb}
 use lib.ListN.{length, getD, set, take, drop, replicate, length-set, length-append, length-replicate}
 use lib.Seq.{sets, length-sets, take-at}
-use Rattle.tables.specs.Layout.{agents, rows, rowPlace, startPlace, tableWords}
+use Rattle.tables.specs.Layout.{agentsPlace, countPlace, rowPlace, startPlace, tableWords}
+use Rattle.tables.specs.Basics.{first}
 use Rattle.tables.specs.Rows.{rowReply}
 use Rattle.tables.specs.Table.{goodTable}
 use Rattle.tables.specs.Lines.{same, endLine, digitsLine, field, lines}
@@ -35,7 +36,7 @@ Fours (f ∷ fs) = Four f × Fours fs
 
 built : (fs tb : _) (n b i c e l : ℕ) → Fours fs → Open tb b i c e l → Placed n (b + 1) i fs → i + rowsNext fs ≡ c → rowsGood n c i e l fs .reply ≡ 0
     → TableFacts (loaded tb (b + 1) i fs)
-unfolding rowsNext rowsGood loaded inPlace after-open after-give
+unfolding first rowsNext rowsGood loaded inPlace after-open after-give
 built [] tb n b i c e l f t q k z = absurd (let y = q .placed in omega arith)
 built (malformed ∷ fs) tb n b i c e l f t q k z = absurd (let y = q .placed in omega arith)
 built (ends ∷ fs) tb n b i c e l f t q k z =
@@ -52,7 +53,7 @@ built (gives b′ ws ∷ fs) tb n b i c e l f t q k z =
     let s : b ≡ b + 1 - 1 = omega arith in
     go (rowReply (rowIn ws) i c e l) refl
     (λ h.
-    subst (λ (a : ℕ). TableFacts (loaded (sets (set tb (b + 1) (i + 1)) (rowPlace a i) ws) (b + 1) (i + 1) fs)) s
+    subst (λ (a : ℕ). TableFacts (loaded (sets (set tb (countPlace a) (i + 1)) (rowPlace a i) ws) (b + 1) (i + 1) fs)) s
     (built fs (after-give tb b i c e l ws t r m (f .0)) (n + 1) b (i + 1) c (rowIn ws .early) (rowIn ws .late) (f .1)
     (given tb b i c e l ws t r m (f .0) h) (give-on n (b + 1) i b′ ws fs q) (omega arith)
     (ap (λ (v : Told). v .reply) (sym (good-row n c i e l b′ ws fs h)) ∙ z)))
@@ -65,7 +66,7 @@ built (gives b′ ws ∷ fs) tb n b i c e l f t q k z =
 
 -- the first line opens agent 0
 first-built : (tb : List ℕ) (fs : List Frame) → Closed tb 0 → Fours fs → Placed 1 0 0 fs → rowsGood 1 0 0 0 0 fs .reply ≡ 0 → TableFacts (loaded tb 0 0 fs)
-unfolding inPlace rowsGood loaded after-open
+unfolding first inPlace rowsGood loaded after-open
 first-built tb [] t f q z = absurd (let y = q .placed in omega arith)
 first-built tb (malformed ∷ fs) t f q z = absurd (let y = q .placed in omega arith)
 first-built tb (ends ∷ fs) t f q z = absurd (let y = q .placed in omega arith)
@@ -111,13 +112,13 @@ loaded-length : (fs : List Frame) (tb : List ℕ) (a i : ℕ) → length (loaded
 unfolding loaded
 loaded-length [] tb a i = refl
 loaded-length (opens b ws ∷ fs) tb a i =
-    loaded-length fs (sets (set tb 0 (a + 1)) (startPlace a) ws) (a + 1) 0
-    ∙ length-sets (set tb 0 (a + 1)) (startPlace a) ws
-    ∙ length-set tb 0 (a + 1)
+    loaded-length fs (sets (set tb agentsPlace (a + 1)) (startPlace a) ws) (a + 1) 0
+    ∙ length-sets (set tb agentsPlace (a + 1)) (startPlace a) ws
+    ∙ length-set tb agentsPlace (a + 1)
 loaded-length (gives b ws ∷ fs) tb a i =
-    loaded-length fs (sets (set tb a (i + 1)) (rowPlace (a - 1) i) ws) a (i + 1)
-    ∙ length-sets (set tb a (i + 1)) (rowPlace (a - 1) i) ws
-    ∙ length-set tb a (i + 1)
+    loaded-length fs (sets (set tb (countPlace (a - 1)) (i + 1)) (rowPlace (a - 1) i) ws) a (i + 1)
+    ∙ length-sets (set tb (countPlace (a - 1)) (i + 1)) (rowPlace (a - 1) i) ws
+    ∙ length-set tb (countPlace (a - 1)) (i + 1)
 loaded-length (ends ∷ fs) tb a i = refl
 loaded-length (malformed ∷ fs) tb a i = refl
 

@@ -1,12 +1,13 @@
 -- The reader of frames: replies 2 and 3 with their line, then 4 to 7, and the table's words. Assumes nothing.
-use mathlib.Core.Bool.{Bool, true, false, _&&_, _||_, cond}
+use mathlib.Core.Bool.{Bool, true, false, not, _&&_}
 use mathlib.Core.List.{List, [], _∷_}
 use Prim.Native.Nat.{ℕ, zero, suc, _+_, _-_}
-use lib.Dec.{ltb, eqb}
+use lib.Dec.{ltb, leb, eqb}
 use lib.ListN.{getD, set, replicate}
 use lib.Seq.{sets}
+use Rattle.tables.specs.Basics.{first, _⇒_, Rule}
 use Rattle.tables.specs.Frames.{Frame, opens, gives, ends, malformed}
-use Rattle.tables.specs.Layout.{rowOf, rowPlace, startPlace, tableWords}
+use Rattle.tables.specs.Layout.{rowOf, agentsPlace, countPlace, startPlace, rowPlace, tableWords}
 use Rattle.tables.specs.Rows.{rowReply}
 use Rattle.tables.specs.declared.Row.{Row}
 use Rattle.reading.specs.declared.Told.{Told}
@@ -18,16 +19,65 @@ abbrev pub noneLeft : List Frame → Bool
 noneLeft [] = true
 noneLeft (f ∷ fs) = false
 
+-- ---- "Out of place (3) are:" a rule for each phrase, where a agents were opened and the last of them, the open one, has i rows so far
+
+-- "a wrong agent number": b, where number c is due
+abbrev pub wrongAgent : (b c : ℕ) → Rule
+wrongAgent b c = not (eqb b c) ⇒ 3
+
+-- "a row with no open agent"
+abbrev pub noOpenAgent : ℕ → Rule
+noOpenAgent a = eqb a 0 ⇒ 3
+
+-- "an agent left without rows", by the line that opens the next agent or by the end line
+abbrev pub noRows : (a i : ℕ) → Rule
+noRows a i = ltb 0 a && eqb i 0 ⇒ 3
+
+-- "an end with no agent"
+abbrev pub noAgent : ℕ → Rule
+noAgent a = eqb a 0 ⇒ 3
+
+-- "a 17th agent"
+abbrev pub agent17 : ℕ → Rule
+agent17 a = leb 16 a ⇒ 3
+
+-- "a 33rd row"
+abbrev pub row33 : ℕ → Rule
+row33 i = leb 32 i ⇒ 3
+
+-- "anything after the end line (not read further, so 3 even where malformed)": the frames that are left
+abbrev pub pastEnd : List Frame → Rule
+pastEnd fs = not (noneLeft fs) ⇒ 3
+
+-- "text that stops without it, told as the line after the last"
+abbrev pub noEnd : List Frame → Rule
+noEnd fs = noneLeft fs ⇒ 3
+
+-- ---- which of them a line is held to
+
+abbrev pub openingRules : (b a i : ℕ) → List Rule
+openingRules b a i = wrongAgent b a ∷ agent17 a ∷ noRows a i ∷ []
+
+abbrev pub rowRules : (b a i : ℕ) → List Rule
+rowRules b a i = noOpenAgent a ∷ wrongAgent b (a - 1) ∷ row33 i ∷ []
+
+abbrev pub endRules : (a i : ℕ) → List Rule
+endRules a i = noAgent a ∷ noRows a i ∷ []
+
+-- what is told of line n where nothing is read further: the first rule that it breaks, or 0
+abbrev pub toldBy : List Rule → ℕ → Told
+toldBy rs n = elim (first rs) [ zero ↦ told 0 0 | suc r ↦ told (suc r) n ]
+
 -- 2 and 3. Line n is next, a agents were opened, and the last of them has i rows so far.
--- After the end line nothing is read: one frame more is 3, also where it is malformed. Text that stops is told as the line after the last.
 unfoldable pub inPlace : (n a i : ℕ) → List Frame → Told
-inPlace n a i [] = told 3 n
+inPlace n a i [] = toldBy (noEnd [] ∷ []) n
 inPlace n a i (malformed ∷ fs) = told 2 n
 inPlace n a i (opens b ws ∷ fs) =
-    elim (eqb b a && ltb a 16 && (eqb a 0 || ltb 0 i)) [ true ↦ inPlace (n + 1) (a + 1) 0 fs | false ↦ told 3 n ]
+    elim (first (openingRules b a i)) [ zero ↦ inPlace (n + 1) (a + 1) 0 fs | suc r ↦ told (suc r) n ]
 inPlace n a i (gives b ws ∷ fs) =
-    elim (eqb (b + 1) a && ltb i 32) [ true ↦ inPlace (n + 1) a (i + 1) fs | false ↦ told 3 n ]
-inPlace n a i (ends ∷ fs) = cond (ltb 0 i) (cond (noneLeft fs) (told 0 0) (told 3 (n + 1))) (told 3 n)
+    elim (first (rowRules b a i)) [ zero ↦ inPlace (n + 1) a (i + 1) fs | suc r ↦ told (suc r) n ]
+inPlace n a i (ends ∷ fs) =
+    elim (first (endRules a i)) [ zero ↦ toldBy (pastEnd fs ∷ []) (n + 1) | suc r ↦ told (suc r) n ]
 
 -- the rows that come before the next agent or the end: an agent's row count, where its opening line is passed
 unfoldable pub rowsNext : List Frame → ℕ
@@ -60,8 +110,8 @@ framesReply fs = elim (inPlace 1 0 0 fs .reply) [ zero ↦ rowsGood 1 0 0 0 0 fs
 -- the words tb once the frames are put in, after a agents of which the last has i rows
 unfoldable pub loaded : List ℕ → (a i : ℕ) → List Frame → List ℕ
 loaded tb a i [] = tb
-loaded tb a i (opens b ws ∷ fs) = loaded (sets (set tb 0 (a + 1)) (startPlace a) ws) (a + 1) 0 fs
-loaded tb a i (gives b ws ∷ fs) = loaded (sets (set tb a (i + 1)) (rowPlace (a - 1) i) ws) a (i + 1) fs
+loaded tb a i (opens b ws ∷ fs) = loaded (sets (set tb agentsPlace (a + 1)) (startPlace a) ws) (a + 1) 0 fs
+loaded tb a i (gives b ws ∷ fs) = loaded (sets (set tb (countPlace (a - 1)) (i + 1)) (rowPlace (a - 1) i) ws) a (i + 1) fs
 loaded tb a i (ends ∷ fs) = tb
 loaded tb a i (malformed ∷ fs) = tb
 

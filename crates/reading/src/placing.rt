@@ -1,25 +1,28 @@
 // Replies 2 and 3: the lines of a text in their places.
 use crate::Told;
+use tables::frames::END_BYTES;
+use tables::frames::FRAME_BYTES;
 use tables::frames::Line;
 use tables::frames::line_at;
+use tables::layout::MOST_AGENTS;
+use tables::layout::MOST_ROWS;
 use tables::replies::ACCEPTED;
 use tables::replies::MALFORMED;
 use tables::replies::OUT_OF_PLACE;
 ghost use mathlib.Core.Path.{_≡_};
-ghost use mathlib.Core.Bool.{_&&_, _||_};
-ghost use Prim.Native.Nat.{_+_};
-ghost use lib.Dec.{eqb, ltb};
+ghost use lib.Dec.{eqb};
+ghost use Rattle.tables.specs.Basics.{first};
 ghost use Rattle.tables.specs.Frames.{framesOf};
-ghost use Rattle.reading.specs.Reader.{inPlace};
+ghost use Rattle.reading.specs.Reader.{openingRules, rowRules, inPlace};
 
 // Whether agent b may be opened after a agents, the last of which has i rows.
 fn may_open(b: u32, a: u32, i: u32) -> bool
-    ensures { λ r. ⌜ r ≡ (eqb b a && ltb a 16 && (eqb a 0 || ltb 0 i)) ⌝ }
+    ensures { λ r. ⌜ r ≡ eqb (first (openingRules b a i)) 0 ⌝ }
 {
     if b != a {
         return false;
     }
-    if 16 <= a {
+    if MOST_AGENTS <= a as usize {
         return false;
     }
     if a == 0 {
@@ -30,7 +33,7 @@ fn may_open(b: u32, a: u32, i: u32) -> bool
 
 // Whether agent b may be given a row after a agents, the last of which has i rows.
 fn may_give(b: u32, a: u32, i: u32) -> bool
-    ensures { λ r. ⌜ r ≡ (eqb (b + 1) a && ltb i 32) ⌝ }
+    ensures { λ r. ⌜ r ≡ eqb (first (rowRules b a i)) 0 ⌝ }
 {
     if a == 0 {
         return false;
@@ -38,10 +41,10 @@ fn may_give(b: u32, a: u32, i: u32) -> bool
     if b != a - 1 {
         return false;
     }
-    i < 32
+    (i as usize) < MOST_ROWS
 }
 
-// Replies 2 and 3, or 0. At most 16 agents of 32 rows are passed, so the lines can be counted.
+// Replies 2 and 3, or 0. At most MOST_AGENTS of MOST_ROWS rows are passed, so the lines can be counted.
 pub fn in_place(text: &[u8]) -> Told
     ensures { λ r. ⌜ r ≡ inPlace 1 0 0 (framesOf (now (text .entry))) ⌝ }
 {
@@ -62,7 +65,7 @@ pub fn in_place(text: &[u8]) -> Told
                 a += 1;
                 i = 0;
                 n += 1;
-                p += 37;
+                p += FRAME_BYTES;
             }
             Line::Gives(b) => {
                 if !may_give(b, a, i) {
@@ -73,7 +76,7 @@ pub fn in_place(text: &[u8]) -> Told
                 }
                 i += 1;
                 n += 1;
-                p += 37;
+                p += FRAME_BYTES;
             }
             Line::Ends => {
                 if i == 0 {
@@ -82,7 +85,7 @@ pub fn in_place(text: &[u8]) -> Told
                         line: n,
                     };
                 }
-                if p + 3 < text.len() {
+                if p + END_BYTES < text.len() {
                     return Told {
                         reply: OUT_OF_PLACE,
                         line: n + 1,

@@ -3,9 +3,15 @@ use crate::Told;
 use crate::loading::put_agent;
 use crate::loading::put_row;
 use crate::placing::in_place;
+use tables::frames::FIRST_WORD;
+use tables::frames::FOURTH_WORD;
+use tables::frames::FRAME_BYTES;
 use tables::frames::Line;
+use tables::frames::SECOND_WORD;
+use tables::frames::THIRD_WORD;
 use tables::frames::sound_line;
 use tables::frames::word;
+use tables::layout::TABLE_WORDS;
 use tables::replies::ACCEPTED;
 use tables::replies::TOO_SHORT;
 use tables::rows::row_of;
@@ -14,6 +20,7 @@ use tables::words::clear;
 use tables::words::copy;
 ghost use mathlib.Core.Path.{_≡_};
 ghost use mathlib.Core.Bool.{true};
+ghost use mathlib.Core.List.{_++_};
 ghost use Prim.Native.Nat.{_≤_};
 ghost use lib.ListN.{length, drop};
 ghost use Rattle.tables.specs.Frames.{framesOf};
@@ -34,7 +41,7 @@ fn rows_next(text: &[u8], at: usize) -> u32
         match line {
             Line::Gives(_) => {
                 c += 1;
-                p += 37;
+                p += FRAME_BYTES;
             }
             _ => {
                 return c;
@@ -62,7 +69,7 @@ fn take_rows(text: &[u8], table: &mut [u32]) -> Told
         match line {
             Line::Opens(_) => {
                 put_agent(text, p, table, a);
-                p += 37;
+                p += FRAME_BYTES;
                 n += 1;
                 a += 1;
                 c = rows_next(text, p);
@@ -71,17 +78,17 @@ fn take_rows(text: &[u8], table: &mut [u32]) -> Told
                 late = 0;
             }
             Line::Gives(_) => {
-                let code = word(text, p, 4);
-                let k = word(text, p, 12);
-                let from = word(text, p, 20);
-                let to = word(text, p, 28);
+                let code = word(text, p, FIRST_WORD);
+                let k = word(text, p, SECOND_WORD);
+                let from = word(text, p, THIRD_WORD);
+                let to = word(text, p, FOURTH_WORD);
                 let row = row_of(code, k, from, to);
                 let reply = row_reply(row, i as u32, c, early, late);
                 if reply != ACCEPTED {
                     return Told { reply, line: n };
                 }
                 put_row(table, a, i, code, k, from, to);
-                p += 37;
+                p += FRAME_BYTES;
                 n += 1;
                 i += 1;
                 early = row.early;
@@ -102,17 +109,25 @@ fn take_rows(text: &[u8], table: &mut [u32]) -> Told
 }
 
 // A table of some words.
-fn blank_table() -> [u32; 2129]
+fn blank_table() -> [u32; TABLE_WORDS]
     ensures { λ r. ⌜ length r ≡ tableWords ⌝ }
 {
-    [0; 2129]
+    [0; TABLE_WORDS]
+}
+
+// The words of a table take the place of the lent ones; those past them stay.
+fn put_table(words: &[u32], table: &mut [u32])
+    requires { ⌜ (length (now words) ≡ tableWords) × (tableWords ≤ length (now table)) ⌝ }
+    ensures { λ _. ⌜ now (table .exit) ≡ now (words .entry) ++ drop tableWords (now (table .entry)) ⌝ }
+{
+    copy(words, &mut table[..TABLE_WORDS]);
 }
 
 // Reads a table's text into the lent words: the reply, with its line. They are written only once every row is accepted.
 pub fn read(text: &[u8], table: &mut [u32]) -> Told
     ensures { λ r. ⌜ Read (now (text .entry)) (now (table .entry)) r (now (table .exit)) ⌝ }
 {
-    if table.len() < 2129 {
+    if table.len() < TABLE_WORDS {
         return Told {
             reply: TOO_SHORT,
             line: 0,
@@ -127,6 +142,6 @@ pub fn read(text: &[u8], table: &mut [u32]) -> Told
     if good.reply != ACCEPTED {
         return good;
     }
-    copy(&words, &mut table[..2129]);
+    put_table(&words, table);
     good
 }

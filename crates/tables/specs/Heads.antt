@@ -1,4 +1,5 @@
--- What stands at a place of a text: the end line, a line of digits, a frame. Assumes nothing.
+-- What stands at a place of a text: the end line, a line of digits, a frame. These are words of the functions of this crate and of those above it:
+-- the statement of no public call needs them. Assumes nothing.
 use mathlib.Core.Bool.{Bool, true, false}
 use mathlib.Core.List.{List, [], _∷_}
 use Prim.Native.Nat.{ℕ, _+_, _*_}

@@ -8,8 +8,11 @@ abbrev pub tableWords : ℕ
 tableWords = 2129
 
 -- "Word 0 is the number of agents; 16 row counts; 64 starting registers (agent by agent)"
+abbrev pub agentsPlace : ℕ
+agentsPlace = 0
+
 abbrev pub agents : List ℕ → ℕ
-agents tb = getD tb 0 0
+agents tb = getD tb agentsPlace 0
 
 abbrev pub countPlace : ℕ → ℕ
 countPlace a = 1 + a

@@ -4,7 +4,7 @@ use mathlib.Core.List.{List, [], _∷_}
 use Prim.Native.Nat.{ℕ, zero, suc, _+_}
 use lib.Dec.{leb, eqb}
 use Rattle.tables.specs.Basics.{every, allBelow, zeroFrom}
-use Rattle.tables.specs.Layout.{agents, rows, row, rowPlace, startPlace, tableWords}
+use Rattle.tables.specs.Layout.{agents, rows, row, countPlace, startPlace, rowPlace, tableWords}
 use Rattle.tables.specs.Rows.{rowReply}
 
 -- the window of the row before row i; before row 0 one that is below every window
@@ -40,7 +40,7 @@ goodTable tb =
     (leb 1 (agents tb)
     ∷ leb (agents tb) 16
     ∷ allBelow (agents tb) (goodAgent tb)
-    ∷ zeroFrom tb (1 + agents tb) 17
-    ∷ zeroFrom tb (startPlace (agents tb)) 81
+    ∷ zeroFrom tb (countPlace (agents tb)) (startPlace 0)
+    ∷ zeroFrom tb (startPlace (agents tb)) (rowPlace 0 0)
     ∷ zeroFrom tb (rowPlace (agents tb) 0) tableWords
     ∷ [])

@@ -8,6 +8,23 @@ ghost use Rattle.tables.specs.Lines as Lines;
 ghost use Rattle.tables.specs.Frames.{framesOf};
 ghost use Rattle.tables.specs.Heads.{endAt, digitsAt, lineAt, sound, twoBytes, eightBytes};
 
+// The digits of a line that opens an agent or gives a row, and its bytes, with the newline.
+pub const FRAME_DIGITS: usize = 36;
+
+pub const FRAME_BYTES: usize = FRAME_DIGITS + 1;
+// Where the agent's number begins in such a line, after the first byte, and where its four words do.
+pub const AGENT_AT: usize = 2;
+
+pub const FIRST_WORD: usize = 4;
+
+pub const SECOND_WORD: usize = 12;
+
+pub const THIRD_WORD: usize = 20;
+
+pub const FOURTH_WORD: usize = 28;
+// The bytes of the end line.
+pub const END_BYTES: usize = 3;
+
 // A line of a table's text: its kind, with the agent's number.
 pub enum Line {
     Opens(u32),
@@ -38,10 +55,10 @@ pub fn is_end(text: &[u8], at: usize) -> bool
     requires { ⌜ at ≤ length (now text) ⌝ }
     ensures { λ r. ⌜ r ≡ endAt (now (text .entry)) at ⌝ }
 {
-    if text.len() - at < 3 {
+    if text.len() - at < END_BYTES {
         return same(&text[at..], b"FF\n");
     }
-    same(&text[at..at + 3], b"FF\n")
+    same(&text[at..at + END_BYTES], b"FF\n")
 }
 
 // The number that an upper-case hexadecimal digit stands for, 16 for any other byte.
@@ -88,19 +105,19 @@ fn is_frame(text: &[u8], at: usize) -> bool
     requires { ⌜ at ≤ length (now text) ⌝ }
     ensures { λ r. ⌜ r ≡ digitsAt 36 (now (text .entry)) at ⌝ }
 {
-    if text.len() - at <= 36 {
+    if text.len() - at <= FRAME_DIGITS {
         return false;
     }
     let mut odds = 0;
     let mut j = 0;
-    while j < 36 {
+    while j < FRAME_DIGITS {
         odds = odds + odd(text[at + j]);
         j += 1;
     }
     if odds != 0 {
         return false;
     }
-    text[at + 36] == b'\n'
+    text[at + FRAME_DIGITS] == b'\n'
 }
 
 // The number that a digit stands for, without a branch.
@@ -139,10 +156,10 @@ pub fn line_at(text: &[u8], at: usize) -> Line
     }
     let kind = field(text, at, 2);
     if kind == 0 {
-        return Line::Opens(field(text, at + 2, 2));
+        return Line::Opens(field(text, at + AGENT_AT, 2));
     }
     if kind == 1 {
-        return Line::Gives(field(text, at + 2, 2));
+        return Line::Gives(field(text, at + AGENT_AT, 2));
     }
     Line::Malformed
 }
@@ -156,9 +173,9 @@ pub fn sound_line(text: &[u8], at: usize) -> Line
         return Line::Ends;
     }
     if text[at + 1] == b'0' {
-        return Line::Opens(field(text, at + 2, 2));
+        return Line::Opens(field(text, at + AGENT_AT, 2));
     }
-    Line::Gives(field(text, at + 2, 2))
+    Line::Gives(field(text, at + AGENT_AT, 2))
 }
 
 fn wide(b: u8) -> u64

@@ -5,6 +5,7 @@ use native.Mathlib.Omega.{arith}
 use lib.ListN.{length-set, set}
 use lib.Seq.{sets}
 use borrow.Author.Needs.{needs}
+use Rattle.tables.specs.Layout.{agentsPlace}
 use Rattle.tables.specs.Frames.{fourWords}
 use Rattle.reading.proofs.loading.put_agent.Statement.{statement}
 use Rattle.reading.proofs.loading.put_agent.Tie as tie
@@ -18,11 +19,8 @@ cast-table c = search needs
 slice-write-table : tie.Need-slice-write-table
 slice-write-table c = search needs
 
-mul-put-words : tie.Need-mul-put-words
-mul-put-words c = search needs
-
-add-put-words : tie.Need-add-put-words
-add-put-words c = search needs
+start-place-requires : tie.Need-start-place-requires
+start-place-requires c κs = search needs
 
 word-requires : tie.Need-word-requires
 word-requires c κs = search needs
@@ -41,14 +39,15 @@ put-words-requires c κs = simp length-set (omega arith)
 
 same-length : tie.Need-same-length
 same-length c =
-    let g = c .before .before .before .before .before .before .before .before .before .before .args in
-    c .before .before .put-words .kept .0 ∙ length-set (g .table .now) 0 (g .a + 1)
+    let g = c .before .before .before .before .before .before .before .before .before .before .before .args in
+    c .before .before .put-words .kept .0 ∙ length-set (g .table .now) agentsPlace (g .a + 1)
 
 returns : tie.Need-returns
 unfolding fourWords
 returns c =
     c .before .before .put-words .ensures
     ∙ rw (
+      c .before .before .before .before .before .before .before .start-place .ensures,
       c .before .before .before .before .before .before .word .ensures,
       c .before .before .before .before .before .word2 .ensures,
       c .before .before .before .before .word3 .ensures,
@@ -62,8 +61,7 @@ put-agent-spec =
     add-table
     cast-table
     slice-write-table
-    mul-put-words
-    add-put-words
+    start-place-requires
     word-requires
     word-requires-2
     word-requires-3

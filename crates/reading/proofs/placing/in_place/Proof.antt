@@ -9,7 +9,7 @@ use Rattle.tables.specs.Heads.{lineAt}
 use Rattle.reading.specs.Reader.{inPlace}
 use Rattle.tables.specs.declared.frames.Line.the-variants.{Opens, Gives}
 use Rattle.tables.proofs.Heads.{framed}
-use Rattle.reading.proofs.Places.{open-room, give-room, opened, opened-not, given, given-not, ended-early, ended-before, ended-well, broken, stopped}
+use Rattle.reading.proofs.Places.{open-room, give-open, give-room, opened, opened-not, given, given-not, ended-early, ended-before, ended-well, broken, stopped}
 use Rattle.reading.proofs.placing.in_place.Statement.{statement}
 use Rattle.reading.proofs.placing.in_place.Tie as tie
 
@@ -18,6 +18,7 @@ Inv-loop text p₀ n₀ a₀ i₀ p n a i =
     (p ≤ length text)
     × (a ≤ 16)
     × (i ≤ 32)
+    × (i ≤ 32 * a)
     × (n ≤ 33 * a + i + 1)
     × (inPlace 1 0 0 (framesOf text) ≡ inPlace n a i (framesOf (drop p text)))
 
@@ -47,7 +48,7 @@ gives-room c =
     framed (c .before .before .before .before .before .before .before .before .before .args .text .now) (l .p) (l .inv .0) (Gives _) (gives-here (c .before)) refl .room
 
 loop-holds : tie.Need-loop-holds Inv-loop μ-loop
-loop-holds c = (omega arith, omega arith, omega arith, omega arith, refl)
+loop-holds c = (omega arith, omega arith, omega arith, omega arith, omega arith, refl)
 
 line-at-requires : tie.Need-line-at-requires Inv-loop μ-loop
 line-at-requires c κs = search needs
@@ -64,7 +65,7 @@ returns c =
     let g = c .before .before .before .before .before .before .before .before .before .args in
     let q = c .before .may-open .ensures in
     sym
-    (l .inv .4
+    (l .inv .5
     ∙ opened-not (g .text .now) (l .p) (l .inv .0) (l .n) (l .a) (l .i) _ (opens-here (c .before)) (sym q ∙ not-true _ (c .if1 .taken)))
 
 add-a : tie.Need-add-a Inv-loop μ-loop
@@ -86,7 +87,7 @@ loop-again c =
     let h = sym (c .before .may-open .ensures) ∙ not-false _ (c .if1 .left) in
     let r = opens-room c in
     let b = open-room _ (l .a) (l .i) h in
-    (r, omega arith, omega arith, omega arith, l .inv .4 ∙ opened (g .text .now) (l .p) (l .inv .0) (l .n) (l .a) (l .i) _ (opens-here (c .before)) h)
+    (r, omega arith, omega arith, omega arith, omega arith, l .inv .5 ∙ opened (g .text .now) (l .p) (l .inv .0) (l .n) (l .a) (l .i) _ (opens-here (c .before)) h)
 
 enum-known-line-2 : tie.Need-enum-known-line-2 Inv-loop μ-loop
 enum-known-line-2 c = search needs
@@ -100,7 +101,7 @@ returns-2 c =
     let g = c .before .before .before .before .before .before .before .before .before .args in
     let q = c .before .may-give .ensures in
     sym
-    (l .inv .4
+    (l .inv .5
     ∙ given-not (g .text .now) (l .p) (l .inv .0) (l .n) (l .a) (l .i) _ (gives-here (c .before)) (sym q ∙ not-true _ (c .if2 .taken)))
 
 add-i : tie.Need-add-i Inv-loop μ-loop
@@ -122,7 +123,8 @@ loop-again-2 c =
     let h = sym (c .before .may-give .ensures) ∙ not-false _ (c .if2 .left) in
     let r = gives-room c in
     let b = give-room _ (l .a) (l .i) h in
-    (r, omega arith, omega arith, omega arith, l .inv .4 ∙ given (g .text .now) (l .p) (l .inv .0) (l .n) (l .a) (l .i) _ (gives-here (c .before)) h)
+    let o = give-open _ (l .a) (l .i) h in
+    (r, omega arith, omega arith, omega arith, omega arith, l .inv .5 ∙ given (g .text .now) (l .p) (l .inv .0) (l .n) (l .a) (l .i) _ (gives-here (c .before)) h)
 
 enum-told : tie.Need-enum-told Inv-loop μ-loop
 enum-told c = search needs
@@ -132,7 +134,7 @@ returns-3 c =
     let l = c .before .before .before .before .before .loop in
     let g = c .before .before .before .before .before .before .before .args in
     let e = sym (c .before .before .before .line-at .ensures) ∙ c .before .enum-told .given .1 in
-    sym (l .inv .4 ∙ ended-early (g .text .now) (l .p) (l .inv .0) (l .n) (l .a) (l .i) e (c .if3 .taken))
+    sym (l .inv .5 ∙ ended-early (g .text .now) (l .p) (l .inv .0) (l .n) (l .a) (l .i) e (c .if3 .taken))
 
 add-if4 : tie.Need-add-if4 Inv-loop μ-loop
 add-if4 c = search needs
@@ -145,14 +147,14 @@ returns-4 c =
     let l = c .before .before .before .before .before .before .loop in
     let g = c .before .before .before .before .before .before .before .before .args in
     let e = sym (c .before .before .before .before .line-at .ensures) ∙ c .before .before .enum-told .given .1 in
-    sym (l .inv .4 ∙ ended-before (g .text .now) (l .p) (l .inv .0) (l .n) (l .a) (l .i) e (omega arith) (c .if4 .taken))
+    sym (l .inv .5 ∙ ended-before (g .text .now) (l .p) (l .inv .0) (l .n) (l .a) (l .i) e (omega arith) (omega arith) (c .if4 .taken))
 
 returns-5 : tie.Need-returns-5 Inv-loop μ-loop
 returns-5 c =
     let l = c .before .before .before .before .before .before .loop in
     let g = c .before .before .before .before .before .before .before .before .args in
     let e = sym (c .before .before .before .before .line-at .ensures) ∙ c .before .before .enum-told .given .1 in
-    sym (l .inv .4 ∙ ended-well (g .text .now) (l .p) (l .inv .0) (l .n) (l .a) (l .i) e (omega arith) (c .if4 .left))
+    sym (l .inv .5 ∙ ended-well (g .text .now) (l .p) (l .inv .0) (l .n) (l .a) (l .i) e (omega arith) (omega arith) (c .if4 .left))
 
 enum-told-2 : tie.Need-enum-told-2 Inv-loop μ-loop
 enum-told-2 c = search needs
@@ -162,13 +164,13 @@ returns-6 c =
     let l = c .before .before .before .before .loop in
     let g = c .before .before .before .before .before .before .args in
     let e = sym (c .before .before .line-at .ensures) ∙ c .enum-told2 .given .1 in
-    sym (l .inv .4 ∙ broken (g .text .now) (l .p) (l .inv .0) (l .n) (l .a) (l .i) e (c .before .before .before .loop-test .taken))
+    sym (l .inv .5 ∙ broken (g .text .now) (l .p) (l .inv .0) (l .n) (l .a) (l .i) e (c .before .before .before .loop-test .taken))
 
 returns-7 : tie.Need-returns-7 Inv-loop μ-loop
 returns-7 c =
     let l = c .before .loop in
     let g = c .before .before .before .args in
-    sym (l .inv .4 ∙ stopped (g .text .now) (l .p) (l .inv .0) (l .n) (l .a) (l .i) (c .loop-test .left))
+    sym (l .inv .5 ∙ stopped (g .text .now) (l .p) (l .inv .0) (l .n) (l .a) (l .i) (c .loop-test .left))
 
 pub in-place-spec : {M : Type 1} → statement M
 in-place-spec =

@@ -1,25 +1,27 @@
-use Prim.Native.Nat.{_+_}
-use mathlib.Core.Path.{_≡_}
-use native.Mathlib.Omega.{arith}
+-- `may_give` meets its contract: the rules of a row's line in their order. Assumes nothing.
 use borrow.Author.Needs.{needs}
 use borrow.Author.Tests.{eq-eqb, ne-eqb}
+use Rattle.tables.proofs.Tests.{not-t, not-f}
+use Rattle.reading.proofs.Places.{rule-broken, rule-kept, last-rule, row-room}
 use Rattle.reading.proofs.placing.may_give.Statement.{statement}
 use Rattle.reading.proofs.placing.may_give.Tie as tie
 
 returns : tie.Need-returns
-returns c = rw (ne-eqb (c .before .args .b + 1) (c .before .args .a) (λ e. omega arith))
+returns c = rule-broken _ _ (eq-eqb _ _ (c .if1 .taken))
 
 sub-if2 : tie.Need-sub-if2
 sub-if2 c = search needs
 
 returns-2 : tie.Need-returns-2
-returns-2 c = let g = c .before .before .args in rw (ne-eqb (g .b + 1) (g .a) (λ e. c .if2 .taken (omega arith)))
+returns-2 c =
+    rule-kept _ _ _ _ (ne-eqb _ _ (c .before .if1 .left))
+    (rule-broken _ _ (not-f _ (ne-eqb _ _ (c .if2 .taken))))
 
 returns-3 : tie.Need-returns-3
 returns-3 c =
-    let g = c .before .before .args in
-    let e : g .b + 1 ≡ g .a = omega arith in
-    rw (eq-eqb _ _ e)
+    rule-kept _ _ _ _ (ne-eqb _ _ (c .before .if1 .left))
+    (rule-kept _ _ _ _ (not-t _ (eq-eqb _ _ (c .if2 .left)))
+    (last-rule _ _ (row-room (c .before .before .args .i))))
 
 pub may-give-spec : {M : Type 1} → statement M
 may-give-spec = tie.close (tie.spec returns sub-if2 returns-2 returns-3)

@@ -6,7 +6,7 @@ use native.Mathlib.Omega.{arith}
 use lib.ListN.{length, set}
 use lib.Seq.{sets}
 use borrow.Author.Needs.{needs}
-use Rattle.tables.specs.Layout.{rowPlace}
+use Rattle.tables.specs.Layout.{countPlace, rowPlace}
 use Rattle.tables.specs.Frames.{fourWords}
 use Rattle.tables.specs.Heads.{lineAt, wordsAt}
 use Rattle.tables.specs.Rows.{rowReply}
@@ -215,7 +215,7 @@ loop-again-2 c =
           (row-turn (l .inv .0) (gives-here e) (reply-is (r .before) ∙ r .if1 .left)),
       row-words (l .inv .1) (gives-here e) _
           (c .before .before .put-row .ensures
-          ∙ ap (λ (ws : List ℕ). sets (set (l .table) (l .a) (l .i + 1)) (rowPlace (l .a - 1) (l .i)) ws) (words-are (r .before .before .before))),
+          ∙ ap (λ (ws : List ℕ). sets (set (l .table) (countPlace (l .a - 1)) (l .i + 1)) (rowPlace (l .a - 1) (l .i)) ws) (words-are (r .before .before .before))),
     )
 
 -- ---- the end
