@@ -1,6 +1,7 @@
 // The words of a state: how many there are, and where each thing stands in them.
 use tables::layout::MOST_AGENTS;
 use tables::layout::MOST_ROWS;
+use tables::layout::REGISTERS;
 ghost use mathlib.Core.Path.{_≡_};
 ghost use Prim.Native.Nat.{_≤_, _<_};
 ghost use lib.ListN.{length};
@@ -10,7 +11,7 @@ pub const CLOCK_AT: usize = 0;
 // Where the registers begin, after the clock and the positions.
 pub const REGISTERS_AT: usize = 1 + MOST_AGENTS;
 // Where the sent marks begin, after the registers.
-pub const MARKS_AT: usize = REGISTERS_AT + 4 * MOST_AGENTS;
+pub const MARKS_AT: usize = REGISTERS_AT + REGISTERS * MOST_AGENTS;
 // Where the sent values begin, after the marks.
 pub const VALUES_AT: usize = MARKS_AT + MOST_ROWS * MOST_AGENTS;
 
@@ -45,7 +46,7 @@ pub fn reg_place(a: usize) -> usize
     requires { ⌜ a ≤ 16 ⌝ }
     ensures { λ r. ⌜ r ≡ State.regPlace a ⌝ }
 {
-    REGISTERS_AT + 4 * a
+    REGISTERS_AT + REGISTERS * a
 }
 
 // Where the mark of row i of agent a stands.

@@ -11,6 +11,7 @@ use crate::layout::value_place;
 use crate::messages::find_best;
 use tables::Family;
 use tables::Row;
+use tables::layout::REGISTERS;
 use tables::layout::agent_count;
 use tables::layout::row_count;
 use tables::replies::ACCEPTED;
@@ -99,7 +100,7 @@ fn put_choice(state: &mut [u32], a: usize, t: u32, r: Row, s: Agent, p: u32)
 }
 
 // The accepted choice of agent a at time t, where own are the agent's registers: those among the state's words are neither read nor written.
-pub fn act(table: &[u32], state: &mut [u32], a: usize, t: u32, own: [u32; 4]) -> Agent
+pub fn act(table: &[u32], state: &mut [u32], a: usize, t: u32, own: [u32; REGISTERS]) -> Agent
     requires { ⌜ (length (now table) ≡ tableWords) × (length (now state) ≡ stateWords) × (goodTable (now table) ≡ true) × (choiceReply (now table) (now state) a t ≡ 0) ⌝ }
     ensures { λ q. ⌜ ((g : List (List ℕ)) → getD g a [] ≡ own → acted q (now (state .exit)) ≡ actInto (now (table .entry)) (now (state .entry)) g a t) ⌝ }
 {
