@@ -56,7 +56,7 @@ add-least-of-next c =
     let g = c .before .before .before .before .before .before .before .before .before .before .before .before .args in
     let b = c .before .before .before .before .before .before .before .before .agents .b in
     let l = c .before .before .before .before .before .before .loop in
-    let h = better-early (g .table .now) (pool (g .state .now)) (g .r) b (l .i) (l .least) (sym (c .before .before .if2 .taken) ∙ c .before .before .before .is-better .ensures) in
+    let h = better-early (g .table .now) (pool (g .state .now)) (g .r) b (l .i) _ (sym (c .before .before .if2 .taken) ∙ c .before .before .before .is-better .ensures) in
     let w = c .before .before .before .before .before .before .before .before .before .before .before .before .good .1 .1 .0 in
     let e = ap (λ (x : Row). x .late) (c .row-at .ensures) in
     omega (arith, h, w .1 .1 .1 .1 .1 .0)
