@@ -90,3 +90,31 @@ module _ (tb st : List ℕ) where
     pub reply-11 : a < agents tb → rows tb a ≤ pos st a → choiceReply tb st a t ≡ 11
     unfolding choiceReply first
     reply-11 h e = rw (lt-leb (agents tb) a h, le-leb (rows tb a) (pos st a) e)
+
+    -- the others, each where those before it do not apply
+    module _ (low : a < agents tb) (live : pos st a < rows tb a) where
+      pub reply-12 : t < clock st → choiceReply tb st a t ≡ 12
+      unfolding choiceReply first
+      reply-12 h = rw (lt-leb (agents tb) a low, lt-leb (rows tb a) (pos st a) live, lt-ltb t (clock st) h)
+
+      module _ (on : clock st ≤ t) where
+        pub reply-13 : t < current tb st a .early → choiceReply tb st a t ≡ 13
+        unfolding choiceReply first
+        reply-13 h =
+            rw (lt-leb (agents tb) a low, lt-leb (rows tb a) (pos st a) live, le-ltb t (clock st) on, lt-ltb t (current tb st a .early) h)
+
+        module _ (opened : current tb st a .early ≤ t) where
+          pub reply-14 : stuck tb st ≡ true → choiceReply tb st a t ≡ 14
+          unfolding choiceReply first
+          reply-14 h =
+              rw (lt-leb (agents tb) a low, lt-leb (rows tb a) (pos st a) live, le-ltb t (clock st) on, le-ltb t (current tb st a .early) opened, h)
+
+          pub reply-15 : stuck tb st ≡ false → inTime tb st t ≡ false → choiceReply tb st a t ≡ 15
+          unfolding choiceReply first
+          reply-15 f h =
+              rw (lt-leb (agents tb) a low, lt-leb (rows tb a) (pos st a) live, le-ltb t (clock st) on, le-ltb t (current tb st a .early) opened, f, h)
+
+          pub reply-0 : stuck tb st ≡ false → inTime tb st t ≡ true → choiceReply tb st a t ≡ 0
+          unfolding choiceReply first
+          reply-0 f h =
+              rw (lt-leb (agents tb) a low, lt-leb (rows tb a) (pos st a) live, le-ltb t (clock st) on, le-ltb t (current tb st a .early) opened, f, h)

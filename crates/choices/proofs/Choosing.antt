@@ -204,7 +204,7 @@ module _ (tb st : List ℕ) (g : List (List ℕ)) (long : length st ≡ 1105) (f
         (around-around st (listed (register g) 64) own (omega arith) (listed-length (register g) 64) own-length ∙ around-own st (omega arith))))
 
     -- what is made on the way, where the agent's registers are o: the row r, the agent q after it, the words ws
-    pub act-made : (o : List ℕ) → getD g a [] ≡ o → (r : Row) (q : Agent) (ws : List ℕ) → r ≡ row tb a (pos st a)
+    act-made : (o : List ℕ) → getD g a [] ≡ o → (r : Row) (q : Agent) (ws : List ℕ) → r ≡ row tb a (pos st a)
         → q ≡ after r (best tb (pool st) r) (record { pos = pos st a; regs = o })
         → ws ≡ withSent (set (set st 0 t) (posPlace a) (q .pos)) a r (record { pos = pos st a; regs = o }) → acted q ws ≡ actInto tb st g a t
     unfolding actInto
@@ -217,3 +217,9 @@ module _ (tb st : List ℕ) (g : List (List ℕ)) (long : length st ≡ 1105) (f
         ∙ ap₂ (λ (x : Row) (y : Agent). withSent (set (set st 0 t) (posPlace a) (y .pos)) a x (record { pos = pos st a; regs = o })) er fq
         ∙ ap (λ (l : List ℕ). withSent (set (set st 0 t) (posPlace a) (moved st g long a low four tb t .pos)) a (row tb a (pos st a)) (record { pos = pos st a; regs = l })) (sym k) in
         ap₂ acted (fq ∙ sym (self-after st g long a low four tb t)) (fw ∙ sym around-step)
+
+    -- the same, where the position was read as p
+    pub act-read : (p : ℕ) → p ≡ pos st a → (o : List ℕ) → getD g a [] ≡ o → (r : Row) (q : Agent) (ws : List ℕ) → r ≡ row tb a p
+        → q ≡ after r (best tb (pool st) r) (record { pos = p; regs = o })
+        → ws ≡ withSent (set (set st 0 t) (posPlace a) (q .pos)) a r (record { pos = p; regs = o }) → acted q ws ≡ actInto tb st g a t
+    act-read p ep o k r q ws er eq ew = act-made o k r q ws (rw ep at er) (rw ep at eq) (rw ep at ew)

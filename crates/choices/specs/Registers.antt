@@ -1,3 +1,4 @@
+-- Vocabulary of the code alone, in which this crate and the executive state their own functions: the statements of the public calls do not need it.
 -- While steps are worked out the registers of all agents stand beside the state's words, which keep the words that they had. Assumes nothing.
 use mathlib.Core.List.{List, [], _∷_, _++_}
 use Prim.Native.Nat.{ℕ, zero, suc, _/_, _%_}

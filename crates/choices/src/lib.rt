@@ -1,4 +1,7 @@
 // One choice of a good table: its reply, and what the accepted one does to the words of a state.
+use tables::layout::REGISTERS;
+
+pub mod layout; // layout.rt: where each thing stands in the words of a state
 mod agents; // agents.rt: what a row does to its agent, one method for each family
 mod messages; // messages.rt: the best of the messages that a row sees
 pub mod deadlines; // deadlines.rt: the deadline of all agents, and whether any agent can go
@@ -7,7 +10,7 @@ pub mod stepping; // stepping.rt: the reply to a choice, and its effect
 // An agent's state, which goes in whole and comes back whole.
 pub struct Agent {
     pub pos: u32,
-    pub regs: [u32; 4],
+    pub regs: [u32; REGISTERS],
 }
 
 // The best message so far.

@@ -2,9 +2,18 @@
 use crate::Agent;
 use crate::deadlines::deadline;
 use crate::deadlines::is_stuck;
+use crate::layout::CLOCK_AT;
+use crate::layout::clock;
+use crate::layout::mark_place;
+use crate::layout::pos_place;
+use crate::layout::position;
+use crate::layout::value_place;
 use crate::messages::find_best;
 use tables::Family;
 use tables::Row;
+use tables::layout::REGISTERS;
+use tables::layout::agent_count;
+use tables::layout::row_count;
 use tables::replies::ACCEPTED;
 use tables::replies::AFTER_LATE;
 use tables::replies::AGENT_ENDED;
@@ -33,18 +42,18 @@ pub fn choice_reply(table: &[u32], state: &[u32], a: u32, t: u32) -> u32
     requires { ⌜ (length (now table) ≡ tableWords) × (length (now state) ≡ stateWords) × (goodTable (now table) ≡ true) ⌝ }
     ensures { λ r. ⌜ r ≡ choiceReply (now (table .entry)) (now (state .entry)) a t ⌝ }
 {
-    if table[0] <= a {
+    if agent_count(table) <= a {
         return NO_SUCH_AGENT;
     }
     let b = a as usize;
-    let p = state[1 + b] as usize;
-    if table[1 + b] as usize <= p {
+    let p = position(state, b);
+    if row_count(table, b) <= p {
         return AGENT_ENDED;
     }
-    if t < state[0] {
+    if t < clock(state) {
         return BEFORE_CLOCK;
     }
-    let r = row_at(table, b, p);
+    let r = row_at(table, b, p as usize);
     if t < r.early {
         return BEFORE_EARLY;
     }
@@ -79,24 +88,24 @@ fn put_choice(state: &mut [u32], a: usize, t: u32, r: Row, s: Agent, p: u32)
     requires { ⌜ (stateWords ≤ length (now state)) × (a < 16) × (s .pos < 32) × (r .x ≤ 3) ⌝ }
     ensures { λ _. ⌜ now (state .exit) ≡ withSent (set (set (now (state .entry)) 0 t) (posPlace a) p) a r s ⌝ }
 {
-    state[0] = t;
-    state[1 + a] = p;
+    state[CLOCK_AT] = t;
+    state[pos_place(a)] = p;
     if r.op != 0x20 {
         return;
     }
     let regs = s.regs;
-    let q = 32 * a + s.pos as usize;
-    state[81 + q] = 1;
-    state[593 + q] = regs[r.x as usize];
+    let i = s.pos as usize;
+    state[mark_place(a, i)] = 1;
+    state[value_place(a, i)] = regs[r.x as usize];
 }
 
 // The accepted choice of agent a at time t, where own are the agent's registers: those among the state's words are neither read nor written.
-pub fn act(table: &[u32], state: &mut [u32], a: usize, t: u32, own: [u32; 4]) -> Agent
+pub fn act(table: &[u32], state: &mut [u32], a: usize, t: u32, own: [u32; REGISTERS]) -> Agent
     requires { ⌜ (length (now table) ≡ tableWords) × (length (now state) ≡ stateWords) × (goodTable (now table) ≡ true) × (choiceReply (now table) (now state) a t ≡ 0) ⌝ }
     ensures { λ q. ⌜ ((g : List (List ℕ)) → getD g a [] ≡ own → acted q (now (state .exit)) ≡ actInto (now (table .entry)) (now (state .entry)) g a t) ⌝ }
 {
     let s = Agent {
-        pos: state[1 + a],
+        pos: position(state, a),
         regs: own,
     };
     let r = row_at(table, a, s.pos as usize);

@@ -4,7 +4,9 @@ use crate::checking::state_fits;
 use crate::running::run_choices;
 use crate::running::take_choices;
 use crate::starting::put_start;
+use choices::layout::STATE_WORDS;
 use tables::checking::table_is_good;
+use tables::layout::TABLE_WORDS;
 use tables::replies::ACCEPTED;
 use tables::replies::BAD_STATE;
 use tables::replies::BAD_TABLE;
@@ -16,17 +18,17 @@ ghost use Rattle.executive.specs.Calls as Calls;
 pub fn start(table: &[u32], state: &mut [u32]) -> u32
     ensures { λ r. ⌜ Calls.Started (now (table .entry)) (now (state .entry)) r (now (state .exit)) ⌝ }
 {
-    if table.len() < 2129 {
+    if table.len() < TABLE_WORDS {
         return TOO_SHORT;
     }
-    if state.len() < 1105 {
+    if state.len() < STATE_WORDS {
         return TOO_SHORT;
     }
-    let tb = &table[..2129];
+    let tb = &table[..TABLE_WORDS];
     if !table_is_good(tb) {
         return BAD_TABLE;
     }
-    put_start(tb, &mut state[..1105]);
+    put_start(tb, &mut state[..STATE_WORDS]);
     ACCEPTED
 }
 
@@ -34,21 +36,21 @@ pub fn start(table: &[u32], state: &mut [u32]) -> u32
 pub fn step(table: &[u32], state: &mut [u32], agent: u32, time: u32) -> u32
     ensures { λ r. ⌜ Calls.Stepped (now (table .entry)) (now (state .entry)) agent time r (now (state .exit)) ⌝ }
 {
-    if table.len() < 2129 {
+    if table.len() < TABLE_WORDS {
         return TOO_SHORT;
     }
-    if state.len() < 1105 {
+    if state.len() < STATE_WORDS {
         return TOO_SHORT;
     }
-    let tb = &table[..2129];
+    let tb = &table[..TABLE_WORDS];
     if !table_is_good(tb) {
         return BAD_TABLE;
     }
-    if !state_fits(tb, &state[..1105]) {
+    if !state_fits(tb, &state[..STATE_WORDS]) {
         return BAD_STATE;
     }
     let choice = [agent, time];
-    let q = take_choices(tb, &mut state[..1105], &choice);
+    let q = take_choices(tb, &mut state[..STATE_WORDS], &choice);
     q.reply
 }
 
@@ -56,13 +58,13 @@ pub fn step(table: &[u32], state: &mut [u32], agent: u32, time: u32) -> u32
 pub fn run(table: &[u32], state: &mut [u32], choices: &[u32]) -> Ran
     ensures { λ r. ⌜ Calls.Ran (now (table .entry)) (now (state .entry)) (now (choices .entry)) (r .reply) (r .count) (now (state .exit)) ⌝ }
 {
-    if table.len() < 2129 {
+    if table.len() < TABLE_WORDS {
         return Ran {
             reply: TOO_SHORT,
             count: 0,
         };
     }
-    if state.len() < 1105 {
+    if state.len() < STATE_WORDS {
         return Ran {
             reply: TOO_SHORT,
             count: 0,
@@ -74,12 +76,12 @@ pub fn run(table: &[u32], state: &mut [u32], choices: &[u32]) -> Ran
             count: 0,
         };
     }
-    let tb = &table[..2129];
+    let tb = &table[..TABLE_WORDS];
     if !table_is_good(tb) {
         return Ran {
             reply: BAD_TABLE,
             count: 0,
         };
     }
-    run_choices(tb, &mut state[..1105], choices)
+    run_choices(tb, &mut state[..STATE_WORDS], choices)
 }

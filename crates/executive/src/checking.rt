@@ -1,5 +1,19 @@
 // Whether a state fits a good table: what reply 9 denies.
 use choices::deadlines::deadline;
+use choices::layout::MARKS_AT;
+use choices::layout::REGISTERS_AT;
+use choices::layout::STATE_WORDS;
+use choices::layout::VALUES_AT;
+use choices::layout::clock;
+use choices::layout::mark;
+use choices::layout::mark_place;
+use choices::layout::pos_place;
+use choices::layout::position;
+use choices::layout::reg_place;
+use choices::layout::value;
+use choices::layout::value_place;
+use tables::layout::agent_count;
+use tables::layout::row_count;
 use tables::rows::row_at;
 use tables::words::all_zero;
 ghost use mathlib.Core.Path.{_≡_};
@@ -13,16 +27,18 @@ ghost use Rattle.tables.specs.Table.{goodTable};
 ghost use Rattle.choices.specs.State.{posPlace, regPlace, markPlace, valuePlace, stateWords};
 ghost use Rattle.choices.specs.Fit.{goodMark, goodPlaces, fits};
 
+const LAST_TIME: u32 = 1000000;
+
 // Whether row i of agent a, below the agent's position, has a mark and a value that it may have.
 fn mark_is_good(table: &[u32], state: &[u32], a: usize, i: usize) -> bool
     requires { ⌜ (tableWords ≤ length (now table)) × (stateWords ≤ length (now state)) × (a < 16) × (i < 32) ⌝ }
     ensures { λ r. ⌜ r ≡ goodMark (now (table .entry)) (now (state .entry)) a i ⌝ }
 {
-    let mark = state[81 + (32 * a + i)];
-    if mark == 0 {
-        return state[593 + (32 * a + i)] == 0;
+    let m = mark(state, a, i);
+    if m == 0 {
+        return value(state, a, i) == 0;
     }
-    if mark != 1 {
+    if m != 1 {
         return false;
     }
     let r = row_at(table, a, i);
@@ -47,17 +63,17 @@ fn places_are_good(table: &[u32], state: &[u32], a: usize) -> bool
     requires { ⌜ (tableWords ≤ length (now table)) × (stateWords ≤ length (now state)) × (a < 16) × (rows (now table) a ≤ 32) ⌝ }
     ensures { λ r. ⌜ r ≡ goodPlaces (now (table .entry)) (now (state .entry)) a ⌝ }
 {
-    let p = state[1 + a] as usize;
-    if (table[1 + a] as usize) < p {
+    let p = position(state, a) as usize;
+    if (row_count(table, a) as usize) < p {
         return false;
     }
     if !marks_are_good(table, state, a, p) {
         return false;
     }
-    if !all_zero(state, 81 + (32 * a + p), 81 + (32 * (a + 1) + 0)) {
+    if !all_zero(state, mark_place(a, p), mark_place(a + 1, 0)) {
         return false;
     }
-    all_zero(state, 593 + (32 * a + p), 593 + (32 * (a + 1) + 0))
+    all_zero(state, value_place(a, p), value_place(a + 1, 0))
 }
 
 // Whether each agent's are.
@@ -65,7 +81,7 @@ fn agents_are_good(table: &[u32], state: &[u32]) -> bool
     requires { ⌜ (tableWords ≤ length (now table)) × (stateWords ≤ length (now state)) × (goodTable (now table) ≡ true) ⌝ }
     ensures { λ r. ⌜ r ≡ allBelow (agents (now (table .entry))) (goodPlaces (now (table .entry)) (now (state .entry))) ⌝ }
 {
-    let n = table[0] as usize;
+    let n = agent_count(table) as usize;
     for a in 0..n {
         if !places_are_good(table, state, a) {
             return false;
@@ -80,16 +96,16 @@ fn unused_are_zero(state: &[u32], n: usize) -> bool
     ensures { λ r. ⌜ r ≡ every (zeroFrom (now (state .entry)) (posPlace n) 17 ∷ zeroFrom (now (state .entry)) (regPlace n) 81
         ∷ zeroFrom (now (state .entry)) (markPlace n 0) 593 ∷ zeroFrom (now (state .entry)) (valuePlace n 0) stateWords ∷ []) ⌝ }
 {
-    if !all_zero(state, 1 + n, 17) {
+    if !all_zero(state, pos_place(n), REGISTERS_AT) {
         return false;
     }
-    if !all_zero(state, 17 + 4 * n, 81) {
+    if !all_zero(state, reg_place(n), MARKS_AT) {
         return false;
     }
-    if !all_zero(state, 81 + (32 * n + 0), 593) {
+    if !all_zero(state, mark_place(n, 0), VALUES_AT) {
         return false;
     }
-    all_zero(state, 593 + (32 * n + 0), 1105)
+    all_zero(state, value_place(n, 0), STATE_WORDS)
 }
 
 // Whether the state fits the table.
@@ -97,18 +113,18 @@ pub fn state_fits(table: &[u32], state: &[u32]) -> bool
     requires { ⌜ (length (now table) ≡ tableWords) × (length (now state) ≡ stateWords) × (goodTable (now table) ≡ true) ⌝ }
     ensures { λ r. ⌜ r ≡ fits (now (table .entry)) (now (state .entry)) ⌝ }
 {
-    let clock = state[0];
-    if clock < 1 {
+    let t = clock(state);
+    if t < 1 {
         return false;
     }
-    if 1000000 < clock {
+    if LAST_TIME < t {
         return false;
     }
-    if deadline(table, state) < clock {
+    if deadline(table, state) < t {
         return false;
     }
     if !agents_are_good(table, state) {
         return false;
     }
-    unused_are_zero(state, table[0] as usize)
+    unused_are_zero(state, agent_count(table) as usize)
 }

@@ -5,6 +5,8 @@ use crate::registers::store_registers;
 use crate::starting::put_start;
 use choices::stepping::act;
 use choices::stepping::choice_reply;
+use tables::layout::MOST_AGENTS;
+use tables::layout::REGISTERS;
 use tables::replies::ACCEPTED;
 ghost use mathlib.Core.Path.{_≡_};
 ghost use mathlib.Core.Bool.{true};
@@ -18,7 +20,12 @@ ghost use Rattle.choices.specs.Registers.{withRegs};
 ghost use Rattle.executive.specs.Run.{ended, runFrom};
 
 // From the state's words with the registers regs, which stand in a local until the choices end: the state's own are stored then.
-fn work_out(table: &[u32], state: &mut [u32], regs: [[u32; 4]; 16], choices: &[u32]) -> Ran
+fn work_out(
+    table: &[u32],
+    state: &mut [u32],
+    regs: [[u32; REGISTERS]; MOST_AGENTS],
+    choices: &[u32],
+) -> Ran
     requires { ⌜ (length (now table) ≡ tableWords) × (length (now state) ≡ stateWords) × (goodTable (now table) ≡ true) × (length (now choices) % 2 ≡ 0) × (fits (now table) (withRegs (now state) regs) ≡ true) ⌝ }
     ensures { λ r. ⌜ ended (r .reply) (r .count) (now (state .exit)) ≡ runFrom (now (table .entry)) (withRegs (now (state .entry)) regs) 0 (now (choices .entry)) ⌝ }
 {

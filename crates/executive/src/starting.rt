@@ -1,4 +1,9 @@
 // The start state of a table.
+use choices::layout::CLOCK_AT;
+use choices::layout::MARKS_AT;
+use choices::layout::REGISTERS_AT;
+use tables::layout::ROWS_AT;
+use tables::layout::STARTS_AT;
 use tables::words::clear;
 use tables::words::copy;
 ghost use mathlib.Core.Path.{_≡_};
@@ -13,6 +18,9 @@ pub fn put_start(table: &[u32], state: &mut [u32])
     ensures { λ _. ⌜ now (state .exit) ≡ startWords (now (table .entry)) ⌝ }
 {
     clear(state);
-    state[0] = 1;
-    copy(&table[17..81], &mut state[17..81]);
+    state[CLOCK_AT] = 1;
+    copy(
+        &table[STARTS_AT..ROWS_AT],
+        &mut state[REGISTERS_AT..MARKS_AT],
+    );
 }

@@ -1,4 +1,8 @@
 // The words of a line into the words of a table.
+use tables::frames::FIRST_WORD;
+use tables::frames::FOURTH_WORD;
+use tables::frames::SECOND_WORD;
+use tables::frames::THIRD_WORD;
 use tables::frames::word;
 use tables::layout::AGENTS_AT;
 use tables::layout::count_place;
@@ -33,10 +37,10 @@ pub fn put_agent(text: &[u8], at: usize, table: &mut [u32], a: usize)
     put_words(
         table,
         start_place(a),
-        word(text, at, 4),
-        word(text, at, 12),
-        word(text, at, 20),
-        word(text, at, 28),
+        word(text, at, FIRST_WORD),
+        word(text, at, SECOND_WORD),
+        word(text, at, THIRD_WORD),
+        word(text, at, FOURTH_WORD),
     );
 }
 

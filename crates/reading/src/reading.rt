@@ -3,8 +3,12 @@ use crate::Told;
 use crate::loading::put_agent;
 use crate::loading::put_row;
 use crate::placing::in_place;
+use tables::frames::FIRST_WORD;
+use tables::frames::FOURTH_WORD;
 use tables::frames::FRAME_BYTES;
 use tables::frames::Line;
+use tables::frames::SECOND_WORD;
+use tables::frames::THIRD_WORD;
 use tables::frames::sound_line;
 use tables::frames::word;
 use tables::layout::TABLE_WORDS;
@@ -16,6 +20,7 @@ use tables::words::clear;
 use tables::words::copy;
 ghost use mathlib.Core.Path.{_≡_};
 ghost use mathlib.Core.Bool.{true};
+ghost use mathlib.Core.List.{_++_};
 ghost use Prim.Native.Nat.{_≤_};
 ghost use lib.ListN.{length, drop};
 ghost use Rattle.tables.specs.Frames.{framesOf};
@@ -73,10 +78,10 @@ fn take_rows(text: &[u8], table: &mut [u32]) -> Told
                 late = 0;
             }
             Line::Gives(_) => {
-                let code = word(text, p, 4);
-                let k = word(text, p, 12);
-                let from = word(text, p, 20);
-                let to = word(text, p, 28);
+                let code = word(text, p, FIRST_WORD);
+                let k = word(text, p, SECOND_WORD);
+                let from = word(text, p, THIRD_WORD);
+                let to = word(text, p, FOURTH_WORD);
                 let row = row_of(code, k, from, to);
                 let reply = row_reply(row, i as u32, c, early, late);
                 if reply != ACCEPTED {
@@ -110,6 +115,14 @@ fn blank_table() -> [u32; TABLE_WORDS]
     [0; TABLE_WORDS]
 }
 
+// The words of a table take the place of the lent ones; those past them stay.
+fn put_table(words: &[u32], table: &mut [u32])
+    requires { ⌜ (length (now words) ≡ tableWords) × (tableWords ≤ length (now table)) ⌝ }
+    ensures { λ _. ⌜ now (table .exit) ≡ now (words .entry) ++ drop tableWords (now (table .entry)) ⌝ }
+{
+    copy(words, &mut table[..TABLE_WORDS]);
+}
+
 // Reads a table's text into the lent words: the reply, with its line. They are written only once every row is accepted.
 pub fn read(text: &[u8], table: &mut [u32]) -> Told
     ensures { λ r. ⌜ Read (now (text .entry)) (now (table .entry)) r (now (table .exit)) ⌝ }
@@ -129,6 +142,6 @@ pub fn read(text: &[u8], table: &mut [u32]) -> Told
     if good.reply != ACCEPTED {
         return good;
     }
-    copy(&words, &mut table[..TABLE_WORDS]);
+    put_table(&words, table);
     good
 }

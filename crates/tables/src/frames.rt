@@ -12,6 +12,16 @@ ghost use Rattle.tables.specs.Heads.{endAt, digitsAt, lineAt, sound, two
 pub const FRAME_DIGITS: usize = 36;
 
 pub const FRAME_BYTES: usize = FRAME_DIGITS + 1;
+// Where the agent's number begins in such a line, after the first byte, and where its four words do.
+pub const AGENT_AT: usize = 2;
+
+pub const FIRST_WORD: usize = 4;
+
+pub const SECOND_WORD: usize = 12;
+
+pub const THIRD_WORD: usize = 20;
+
+pub const FOURTH_WORD: usize = 28;
 // The bytes of the end line.
 pub const END_BYTES: usize = 3;
 
@@ -146,10 +156,10 @@ pub fn line_at(text: &[u8], at: usize) -> Line
     }
     let kind = field(text, at, 2);
     if kind == 0 {
-        return Line::Opens(field(text, at + 2, 2));
+        return Line::Opens(field(text, at + AGENT_AT, 2));
     }
     if kind == 1 {
-        return Line::Gives(field(text, at + 2, 2));
+        return Line::Gives(field(text, at + AGENT_AT, 2));
     }
     Line::Malformed
 }
@@ -163,9 +173,9 @@ pub fn sound_line(text: &[u8], at: usize) -> Line
         return Line::Ends;
     }
     if text[at + 1] == b'0' {
-        return Line::Opens(field(text, at + 2, 2));
+        return Line::Opens(field(text, at + AGENT_AT, 2));
     }
-    Line::Gives(field(text, at + 2, 2))
+    Line::Gives(field(text, at + AGENT_AT, 2))
 }
 
 fn wide(b: u8) -> u64

@@ -7,14 +7,18 @@ ghost use Rattle.tables.specs.Layout.{tableWords, agents, rows, countPla
 pub const MOST_AGENTS: usize = 16;
 
 pub const MOST_ROWS: usize = 32;
+
+pub const REGISTERS: usize = 4;
+
+pub const ROW_WORDS: usize = 4;
 // Where the number of agents stands, before the row counts.
 pub const AGENTS_AT: usize = 0;
 // Where the starting registers begin, after the number of agents and the row counts.
 pub const STARTS_AT: usize = 1 + MOST_AGENTS;
 // Where the rows begin, after the starting registers.
-pub const ROWS_AT: usize = STARTS_AT + 4 * MOST_AGENTS;
+pub const ROWS_AT: usize = STARTS_AT + REGISTERS * MOST_AGENTS;
 
-pub const TABLE_WORDS: usize = ROWS_AT + 4 * MOST_ROWS * MOST_AGENTS;
+pub const TABLE_WORDS: usize = ROWS_AT + ROW_WORDS * MOST_ROWS * MOST_AGENTS;
 
 // The number of agents.
 pub fn agent_count(table: &[u32]) -> u32
@@ -45,7 +49,7 @@ pub fn start_place(a: usize) -> usize
     requires { ⌜ a ≤ 16 ⌝ }
     ensures { λ r. ⌜ r ≡ startPlace a ⌝ }
 {
-    STARTS_AT + 4 * a
+    STARTS_AT + REGISTERS * a
 }
 
 // Where row i of agent a begins.
@@ -53,5 +57,5 @@ pub fn row_place(a: usize, i: usize) -> usize
     requires { ⌜ (a ≤ 16) × (i ≤ 32) ⌝ }
     ensures { λ r. ⌜ r ≡ rowPlace a i ⌝ }
 {
-    ROWS_AT + 4 * (MOST_ROWS * a + i)
+    ROWS_AT + ROW_WORDS * (MOST_ROWS * a + i)
 }

@@ -1,5 +1,6 @@
--- What stands at a place of the input or is put at a place of the output, in the words of this crate's own functions:
--- the public statement does not need them. Assumes nothing.
+-- Vocabulary of the code alone, in which this crate's functions are stated, and what a caller that lends a part has to know: the public statement
+-- `Wrote` does not need it.
+-- What stands at a place of the input, or is put at a place of the output. Assumes nothing.
 use mathlib.Core.Bool.{Bool, true, false}
 use mathlib.Core.List.{List, [], _∷_}
 use mathlib.Core.Path.{_≡_}

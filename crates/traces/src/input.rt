@@ -1,4 +1,5 @@
 // The parts of the input: the table's text up to the end line, and the choice lines after it.
+use tables::frames::END_BYTES;
 use tables::frames::field;
 use tables::frames::is_digits_line;
 use tables::frames::is_end;
@@ -8,6 +9,10 @@ ghost use lib.ListN.{length, drop};
 ghost use Rattle.tables.specs.Lines.{lines};
 ghost use Rattle.traces.specs.Input.{longestInput, tableBytes, tableText, badChoice};
 ghost use Rattle.traces.specs.Places.{lineLength, choiceAt};
+
+const CHOICE_DIGITS: usize = 12;
+// A choice line, with its newline.
+pub const CHOICE_BYTES: usize = CHOICE_DIGITS + 1;
 
 // Where the table's text ends, and how many lines it has.
 pub struct TableEnd {
@@ -40,7 +45,7 @@ pub fn table_end(input: &[u8]) -> TableEnd
     while at < input.len() {
         if is_end(input, at) {
             return TableEnd {
-                at: at + 3,
+                at: at + END_BYTES,
                 lines: count + 1,
             };
         }
@@ -55,7 +60,7 @@ fn is_choice(text: &[u8], at: usize) -> bool
     requires { ⌜ at ≤ length (now text) ⌝ }
     ensures { λ r. ⌜ r ≡ choiceAt (now (text .entry)) at ⌝ }
 {
-    if !is_digits_line(text, at, 12) {
+    if !is_digits_line(text, at, CHOICE_DIGITS) {
         return false;
     }
     field(text, at, 2) == 0x02
@@ -72,7 +77,7 @@ pub fn first_bad_choice(input: &[u8], at: usize, line: u32) -> u32
         if !is_choice(input, p) {
             return n;
         }
-        p += 13;
+        p += CHOICE_BYTES;
         n += 1;
     }
     0

@@ -3,7 +3,12 @@ use crate::input::first_bad_choice;
 use crate::input::table_end;
 use crate::tracing::finish;
 use crate::tracing::trace_steps;
+use crate::writing::LAST_BYTES;
+use crate::writing::STEP_BYTES;
 use reading::reading::read;
+use tables::layout::MOST_AGENTS;
+use tables::layout::MOST_ROWS;
+use tables::layout::TABLE_WORDS;
 use tables::replies::ACCEPTED;
 use tables::replies::INPUT_TOO_LONG;
 use tables::replies::MALFORMED;
@@ -18,8 +23,8 @@ mod input; // input.rt: the table's text and the choice lines
 mod writing; // writing.rt: hexadecimal text in the output buffer
 mod tracing; // tracing.rt: the steps and the last line
 
-// 512 lines of 47 bytes and the last of 9.
-const LONGEST_OUTPUT: usize = 24073;
+// Every row's step and the last line: 512 lines of 47 bytes and one of 9.
+const LONGEST_OUTPUT: usize = MOST_AGENTS * MOST_ROWS * STEP_BYTES + LAST_BYTES;
 
 const LONGEST_INPUT: usize = 65536;
 
@@ -31,10 +36,10 @@ pub struct TraceReply {
 }
 
 // A table of some words: a read that is accepted replaces them all.
-fn blank_table() -> [u32; 2129]
+fn blank_table() -> [u32; TABLE_WORDS]
     ensures { λ r. ⌜ length r ≡ tableWords ⌝ }
 {
-    [0; 2129]
+    [0; TABLE_WORDS]
 }
 
 // The output for an input, at the start of `out`.

@@ -1,7 +1,11 @@
 // The choice lines of an input, one step after the other, and the output's last line.
 use crate::TraceReply;
+use crate::input::CHOICE_BYTES;
+use crate::writing::LAST_BYTES;
+use crate::writing::STEP_BYTES;
 use crate::writing::put_last_line;
 use crate::writing::put_step_line;
+use choices::layout::STATE_WORDS;
 use choices::stepping::act;
 use choices::stepping::choice_reply;
 use executive::registers::load_registers;
@@ -29,15 +33,15 @@ pub fn finish(out: &mut [u8], at: usize, reply: u32, n: u32) -> TraceReply
     put_last_line(out, at, reply, n);
     TraceReply {
         reply,
-        length: at + 9,
+        length: at + LAST_BYTES,
     }
 }
 
 // A state of some words: the start state replaces them all.
-fn blank_state() -> [u32; 1105]
+fn blank_state() -> [u32; STATE_WORDS]
     ensures { λ r. ⌜ length r ≡ stateWords ⌝ }
 {
-    [0; 1105]
+    [0; STATE_WORDS]
 }
 
 // The steps of the choice lines, none of which is malformed, from the start state of a good table.
@@ -65,8 +69,8 @@ pub fn trace_steps(choices: &[u8], table: &[u32], out: &mut [u8]) -> TraceReply
         regs[b] = new;
         put_step_line(out, end, a, t, agent);
         n += 1;
-        at += 13;
-        end += 47;
+        at += CHOICE_BYTES;
+        end += STEP_BYTES;
     }
     finish(out, end, ACCEPTED, n)
 }

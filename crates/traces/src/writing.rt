@@ -1,10 +1,19 @@
 // Text of upper-case hexadecimal digits, put into a lent buffer from a place on.
 use choices::Agent;
+use tables::layout::REGISTERS;
 ghost use mathlib.Core.Path.{_≡_};
 ghost use Prim.Native.Nat.{_+_, _≤_, _<_};
 ghost use lib.ListN.{length};
 ghost use lib.Seq.{sets};
 ghost use Rattle.traces.specs.Output.{hexChar, hexDigits, hexWords, stepLine, lastLine};
+
+const STEP_DIGITS: usize = 46;
+// The line of a step, with its newline.
+pub const STEP_BYTES: usize = STEP_DIGITS + 1;
+
+const LAST_DIGITS: usize = 8;
+// The last line, with its newline.
+pub const LAST_BYTES: usize = LAST_DIGITS + 1;
 
 // The upper-case hexadecimal digit of a number below 16.
 fn hex_char(d: u32) -> u8
@@ -32,11 +41,11 @@ fn put_hex(out: &mut [u8], at: usize, k: usize, m: u32)
 }
 
 // Four registers. (That they are four is what a caller has to know of an agent's list.)
-fn put_words(out: &mut [u8], at: usize, ws: [u32; 4])
+fn put_words(out: &mut [u8], at: usize, ws: [u32; REGISTERS])
     requires { ⌜ at + 32 ≤ length (now out) ⌝ }
     ensures { λ _. ⌜ (now (out .exit) ≡ sets (now (out .entry)) at (hexWords ws)) × (length ws ≡ 4) ⌝ }
 {
-    for i in 0..4 {
+    for i in 0..REGISTERS {
         put_hex(out, at + 8 * i, 8, ws[i]);
     }
 }
@@ -52,7 +61,7 @@ pub fn put_step_line(out: &mut [u8], at: usize, a: u32, t: u32, s: Agent)
     put_hex(out, at + 4, 2, s.pos);
     put_hex(out, at + 6, 8, t);
     put_words(out, at + 14, regs);
-    out[at + 46] = b'\n';
+    out[at + STEP_DIGITS] = b'\n';
 }
 
 // The last line.
@@ -63,5 +72,5 @@ pub fn put_last_line(out: &mut [u8], at: usize, reply: u32, n: u32)
     put_hex(out, at, 2, 0xFE);
     put_hex(out, at + 2, 2, reply);
     put_hex(out, at + 4, 4, n);
-    out[at + 8] = b'\n';
+    out[at + LAST_DIGITS] = b'\n';
 }

@@ -3,6 +3,7 @@ use mathlib.Core.Path.{_≡_, sym, ap, _∙_}
 use mathlib.Core.List.{List}
 use Prim.Native.Nat.{ℕ, _-_}
 use native.Mathlib.Nat.{le-of-eq}
+use native.Mathlib.Omega.{arith}
 use lib.ListN.{length, take, drop, length-drop}
 use lib.Seq.{take-all, length-take-le}
 use Rattle.tables.specs.Lines.{lines}
@@ -29,7 +30,7 @@ reading c =
     record { short = c .before .before .before .before .before .if2 .left; place = e .0; counted = e .1; blank = b .result; blank-long = b .ensures; read = c .read .ensures }
 
 returns : tie.Need-returns
-returns c = too-short _ _ (c .if1 .taken)
+returns c = too-short _ _ (omega arith)
 
 finish-requires : tie.Need-finish-requires
 finish-requires c κs = search needs

@@ -31,8 +31,8 @@ returns c =
     let g = c .before .before .before .before in
     sym (not-all-below _ _ (g .args .a) (g .pre .0 .3) (rw (sym (c .before .can-go .ensures) ∙ c .if1 .taken)))
 
-shared-slice-read-n : tie.Need-shared-slice-read-n Inv-loop μ-loop
-shared-slice-read-n c = omega arith
+agent-count-requires : tie.Need-agent-count-requires Inv-loop μ-loop
+agent-count-requires c κs = omega arith
 
 cast-n : tie.Need-cast-n Inv-loop μ-loop
 cast-n c = omega (arith, few (c .before .before .before .before .before .args .table .now) (c .before .before .before .before .before .pre .0 .2))
@@ -74,4 +74,4 @@ returns-3 c =
 pub is-stuck-spec : {M : Type 1} → statement M
 is-stuck-spec =
     tie.close
-    (tie.spec Inv-loop μ-loop can-go-requires returns shared-slice-read-n cast-n loop-holds can-go-requires-2 returns-2 add-b loop-less loop-again returns-3)
+    (tie.spec Inv-loop μ-loop can-go-requires returns agent-count-requires cast-n loop-holds can-go-requires-2 returns-2 add-b loop-less loop-again returns-3)

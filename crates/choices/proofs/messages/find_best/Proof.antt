@@ -26,8 +26,8 @@ Inv-agents table state r n m₀ next₀ b₀ m next b = (b ≤ n) × (b ≤ 16) 
 abbrev μ-agents : tie.MeasureT-agents
 μ-agents table state r n m₀ next₀ b₀ m next b = 16 - b
 
-shared-slice-read-n : tie.Need-shared-slice-read-n Inv-loop μ-loop Inv-agents μ-agents
-shared-slice-read-n c = omega arith
+agent-count-requires : tie.Need-agent-count-requires Inv-loop μ-loop Inv-agents μ-agents
+agent-count-requires c κs = omega arith
 
 cast-n : tie.Need-cast-n Inv-loop μ-loop Inv-agents μ-agents
 cast-n c = omega arith
@@ -56,7 +56,7 @@ add-least-of-next c =
     let g = c .before .before .before .before .before .before .before .before .before .before .before .before .args in
     let b = c .before .before .before .before .before .before .before .before .agents .b in
     let l = c .before .before .before .before .before .before .loop in
-    let h = better-early (g .table .now) (pool (g .state .now)) (g .r) b (l .i) (l .least) (sym (c .before .before .if2 .taken) ∙ c .before .before .before .is-better .ensures) in
+    let h = better-early (g .table .now) (pool (g .state .now)) (g .r) b (l .i) _ (sym (c .before .before .if2 .taken) ∙ c .before .before .before .is-better .ensures) in
     let w = c .before .before .before .before .before .before .before .before .before .before .before .before .good .1 .1 .0 in
     let e = ap (λ (x : Row). x .late) (c .row-at .ensures) in
     omega (arith, h, w .1 .1 .1 .1 .1 .0)
@@ -122,7 +122,7 @@ find-best-spec =
     μ-loop
     Inv-agents
     μ-agents
-    shared-slice-read-n
+    agent-count-requires
     cast-n
     agents-holds
     loop-holds

@@ -14,29 +14,17 @@ returns c = let g = c .before .before .before .before .before .before .args in t
 returns-2 : tie.Need-returns-2
 returns-2 c = let g = c .before .before .before .before .before .before .before .before .args in too-low (g .table .now) (pool (g .state .now)) (g .r) (g .b) (g .i) (g .least) (rw (c .before .before .before .before .before .row-at .ensures) at (c .if2 .taken))
 
-mul-if3 : tie.Need-mul-if3
-mul-if3 c = search needs
-
-add-if3 : tie.Need-add-if3
-add-if3 c = search needs
-
-add-if3-2 : tie.Need-add-if3-2
-add-if3-2 c = search needs
-
-mul-if3-2 : tie.Need-mul-if3-2
-mul-if3-2 c = search needs
-
-shared-slice-read-if3 : tie.Need-shared-slice-read-if3
-shared-slice-read-if3 c = search needs
+mark-requires : tie.Need-mark-requires
+mark-requires c κs = search needs
 
 returns-3 : tie.Need-returns-3
-returns-3 c = let g = c .before .before .before .before .before .before .before .before .before .before .args in not-sent (g .table .now) (pool (g .state .now)) (g .r) (g .b) (g .i) (g .least) (c .if3 .taken)
+returns-3 c = let g = c .before .before .before .before .before .before .before .before .before .before .args in not-sent (g .table .now) (pool (g .state .now)) (g .r) (g .b) (g .i) (g .least) (rw (c .before .mark .ensures) at (c .if3 .taken))
 
 returns-4 : tie.Need-returns-4
 returns-4 c =
     let g = c .before .before .before .before .before .before .before .before .before .before .before .before .args in
     let e = c .before .before .before .before .before .before .before .before .before .row-at .ensures in
-    rw e (sent (g .table .now) (pool (g .state .now)) (g .r) (g .b) (g .i) (g .least) (rw e at (c .before .before .before .before .if2 .left)) (rw e at (c .before .before .before .before .before .before .if1 .left)) (c .before .before .if3 .left))
+    rw e (sent (g .table .now) (pool (g .state .now)) (g .r) (g .b) (g .i) (g .least) (rw e at (c .before .before .before .before .if2 .left)) (rw e at (c .before .before .before .before .before .before .if1 .left)) (rw (c .before .before .before .mark .ensures) at (c .before .before .if3 .left)))
 
 pub is-better-spec : {M : Type 1} → statement M
 is-better-spec =
@@ -45,10 +33,6 @@ is-better-spec =
     row-at-requires
     returns
     returns-2
-    mul-if3
-    add-if3
-    add-if3-2
-    mul-if3-2
-    shared-slice-read-if3
+    mark-requires
     returns-3
     returns-4)

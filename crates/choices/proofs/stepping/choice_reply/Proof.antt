@@ -1,137 +1,107 @@
 -- `choice_reply` meets its contract: the tests of `choiceReply` in their order. Assumes nothing.
 use mathlib.Core.Path.{sym, _∙_}
 use native.Mathlib.Omega.{arith}
-use Prim.Native.Nat.{_+_}
-use borrow.Author.Tests.{le-leb, lt-leb, lt-ltb, le-ltb}
-use Rattle.tables.specs.Basics.{first}
-use Rattle.choices.specs.Step.{choiceReply}
+use borrow.Author.Tests.{le-leb, lt-leb}
 use Rattle.tables.proofs.Good.{few, few-rows}
+use Rattle.choices.proofs.Choice.{reply-10, reply-11, reply-12, reply-13, reply-14, reply-15, reply-0}
 use borrow.Author.Needs.{needs}
 use Rattle.choices.proofs.stepping.choice_reply.Statement.{statement}
 use Rattle.choices.proofs.stepping.choice_reply.Tie as tie
 
-shared-slice-read-if1 : tie.Need-shared-slice-read-if1
-shared-slice-read-if1 c = search needs
+agent-count-requires : tie.Need-agent-count-requires
+agent-count-requires c κs = search needs
 
 returns : tie.Need-returns
-unfolding choiceReply first
-returns c = rw (le-leb _ _ (c .if1 .taken))
+returns c = sym (reply-10 _ _ _ _ (omega arith))
 
-add-p : tie.Need-add-p
-add-p c = search needs
+position-requires : tie.Need-position-requires
+position-requires c κs = let g = c .before .before .before .before in let n = few (g .args .table .now) (g .pre .2) in omega arith
 
-mul-p : tie.Need-mul-p
-mul-p c = search needs
-
-shared-slice-read-p : tie.Need-shared-slice-read-p
-shared-slice-read-p c = let g = c .before .before .before .before .before in omega (arith, few (g .args .table .now) (g .pre .2), few-rows (g .args .table .now) (g .pre .2) (g .args .a) (c .before .if1 .left))
-
-cast-p : tie.Need-cast-p
-cast-p c = omega (arith, c .shared-slice-known4 .given (1 + c .before .before .before .before .before .args .a))
-
-add-if2 : tie.Need-add-if2
-add-if2 c = search needs
-
-mul-if2 : tie.Need-mul-if2
-mul-if2 c = search needs
-
-shared-slice-read-if2 : tie.Need-shared-slice-read-if2
-shared-slice-read-if2 c = let g = c .before .before .before .before .before .before in omega (arith, few (g .args .table .now) (g .pre .2), few-rows (g .args .table .now) (g .pre .2) (g .args .a) (c .before .before .if1 .left))
-
-cast-if2 : tie.Need-cast-if2
-cast-if2 c = omega (arith, c .shared-slice-known5 .given (1 + c .before .before .before .before .before .before .args .a))
+row-count-requires : tie.Need-row-count-requires
+row-count-requires c κs = let g = c .before .before .before .before .before in let n = few (g .args .table .now) (g .pre .2) in omega arith
 
 returns-2 : tie.Need-returns-2
-unfolding choiceReply first
-returns-2 c =
-    rw (
-      lt-leb _ _ (c .before .before .before .if1 .left),
-      le-leb _ _ (c .if2 .taken),
-    )
+returns-2 c = sym (reply-11 _ _ _ _ (omega arith) (omega arith))
 
-shared-slice-read-if3 : tie.Need-shared-slice-read-if3
-shared-slice-read-if3 c = search needs
+clock-requires : tie.Need-clock-requires
+clock-requires c κs = search needs
 
 returns-3 : tie.Need-returns-3
-unfolding choiceReply first
-returns-3 c =
-    rw (
-      lt-leb _ _ (c .before .before .before .before .before .if1 .left),
-      lt-leb _ _ (c .before .before .if2 .left),
-      lt-ltb _ _ (c .if3 .taken),
-    )
+returns-3 c = sym (reply-12 _ _ _ _ (omega arith) (omega arith) (omega arith))
+
+cast-row-at : tie.Need-cast-row-at
+cast-row-at c = search needs
 
 row-at-requires : tie.Need-row-at-requires
-row-at-requires c κs = let g = c .before .before .before .before .before .before .before .before .before in omega (arith, few (g .args .table .now) (g .pre .2), few-rows (g .args .table .now) (g .pre .2) (g .args .a) (c .before .before .before .before .before .if1 .left))
+row-at-requires c κs =
+    let k = c .before .before .before .before .before in
+    let g = k .before .before .before .before in
+    let low = rw (k .before .agent-count .ensures) at (k .if1 .left) in
+    let n = few (g .args .table .now) (g .pre .2) in
+    let r = few-rows (g .args .table .now) (g .pre .2) (g .args .a) low in
+    omega arith
 
 returns-4 : tie.Need-returns-4
-unfolding choiceReply first
 returns-4 c =
-    rw (
-      lt-leb _ _ (c .before .before .before .before .before .before .before .before .if1 .left),
-      lt-leb _ _ (c .before .before .before .before .before .if2 .left),
-      le-ltb _ _ (c .before .before .before .if3 .left),
-      lt-ltb _ _ (rw (c .before .before .row-at .ensures) at (c .if4 .taken)),
-    )
+    let p = c .before .before .before .before .before .before .before .position .ensures in
+    sym (reply-13 _ _ _ _ (omega arith) (omega arith) (omega arith) (rw (c .before .before .row-at .ensures, p) at (c .if4 .taken)))
 
 deadline-requires : tie.Need-deadline-requires
 deadline-requires c κs = search needs
 
 is-stuck-requires : tie.Need-is-stuck-requires
-is-stuck-requires c κs = search needs
+is-stuck-requires c κs =
+    let k = c .before .before .before .before .before .before .before .before .before in
+    let g = k .before .before .before .before .pre in
+    ((g .0, g .1, g .2, rw (k .before .agent-count .ensures) at (k .if1 .left)), c .deadline .ensures)
 
 returns-5 : tie.Need-returns-5
-unfolding choiceReply first
 returns-5 c =
-    rw (
-      lt-leb _ _ (c .before .before .before .before .before .before .before .before .before .before .before .if1 .left),
-      lt-leb _ _ (c .before .before .before .before .before .before .before .before .if2 .left),
-      le-ltb _ _ (c .before .before .before .before .before .before .if3 .left),
-      le-ltb _ _ (rw (c .before .before .before .before .before .row-at .ensures) at (c .before .before .before .if4 .left)),
-      sym (c .before .is-stuck .ensures) ∙ c .if5 .taken,
-    )
+    let e = c .before .before .before in
+    let k = e .before .before .before in
+    let m = k .before .before in
+    let n = m .before .before .before in
+    let p = m .before .before .position .ensures in
+    sym (reply-14 _ _ _ _ (rw (n .before .agent-count .ensures) at (n .if1 .left)) (rw (m .before .row-count .ensures, p) at (m .if2 .left))
+    (rw (k .before .clock .ensures) at (k .if3 .left)) (rw (e .before .before .row-at .ensures, p) at (e .if4 .left))
+    (sym (c .before .is-stuck .ensures) ∙ c .if5 .taken))
 
 returns-6 : tie.Need-returns-6
-unfolding choiceReply first
 returns-6 c =
-    rw (
-      lt-leb _ _ (c .before .before .before .before .before .before .before .before .before .before .before .before .if1 .left),
-      lt-leb _ _ (c .before .before .before .before .before .before .before .before .before .if2 .left),
-      le-ltb _ _ (c .before .before .before .before .before .before .before .if3 .left),
-      le-ltb _ _ (rw (c .before .before .before .before .before .before .row-at .ensures) at (c .before .before .before .before .if4 .left)),
-      sym (c .before .before .is-stuck .ensures) ∙ c .before .if5 .left,
-      c .before .before .before .deadline .ensures _ (c .before .before .before .before .before .before .before .before .before .before .before .before .before .before .before .before .fits .t .fits) ∙ lt-leb _ _ (c .if6 .taken),
-    )
+    let e = c .before .before .before .before in
+    let k = e .before .before .before in
+    let m = k .before .before in
+    let n = m .before .before .before in
+    let p = m .before .before .position .ensures in
+    sym (reply-15 _ _ _ _ (rw (n .before .agent-count .ensures) at (n .if1 .left)) (rw (m .before .row-count .ensures, p) at (m .if2 .left))
+    (rw (k .before .clock .ensures) at (k .if3 .left)) (rw (e .before .before .row-at .ensures, p) at (e .if4 .left))
+    (sym (c .before .before .is-stuck .ensures) ∙ c .before .if5 .left)
+    (c .before .before .before .deadline .ensures _ (n .before .before .before .before .fits .t .fits) ∙ lt-leb _ _ (c .if6 .taken)))
 
 returns-7 : tie.Need-returns-7
-unfolding choiceReply first
 returns-7 c =
-    rw (
-      lt-leb _ _ (c .before .before .before .before .before .before .before .before .before .before .before .before .if1 .left),
-      lt-leb _ _ (c .before .before .before .before .before .before .before .before .before .if2 .left),
-      le-ltb _ _ (c .before .before .before .before .before .before .before .if3 .left),
-      le-ltb _ _ (rw (c .before .before .before .before .before .before .row-at .ensures) at (c .before .before .before .before .if4 .left)),
-      sym (c .before .before .is-stuck .ensures) ∙ c .before .if5 .left,
-      c .before .before .before .deadline .ensures _ (c .before .before .before .before .before .before .before .before .before .before .before .before .before .before .before .before .fits .t .fits) ∙ le-leb _ _ (c .if6 .left),
-    )
+    let e = c .before .before .before .before in
+    let k = e .before .before .before in
+    let m = k .before .before in
+    let n = m .before .before .before in
+    let p = m .before .before .position .ensures in
+    sym (reply-0 _ _ _ _ (rw (n .before .agent-count .ensures) at (n .if1 .left)) (rw (m .before .row-count .ensures, p) at (m .if2 .left))
+    (rw (k .before .clock .ensures) at (k .if3 .left)) (rw (e .before .before .row-at .ensures, p) at (e .if4 .left))
+    (sym (c .before .before .is-stuck .ensures) ∙ c .before .if5 .left)
+    (c .before .before .before .deadline .ensures _ (n .before .before .before .before .fits .t .fits) ∙ le-leb _ _ (c .if6 .left)))
 
 pub choice-reply-spec : {M : Type 1} → statement M
 choice-reply-spec =
     tie.close
     (tie.spec
-    shared-slice-read-if1
+    agent-count-requires
     returns
-    add-p
-    mul-p
-    shared-slice-read-p
-    cast-p
-    add-if2
-    mul-if2
-    shared-slice-read-if2
-    cast-if2
+    position-requires
+    row-count-requires
     returns-2
-    shared-slice-read-if3
+    clock-requires
     returns-3
+    cast-row-at
     row-at-requires
     returns-4
     deadline-requires

@@ -10,8 +10,8 @@ use Rattle.choices.proofs.stepping.put_choice.Tie as tie
 slice-write-state : tie.Need-slice-write-state
 slice-write-state c = search needs
 
-add-state : tie.Need-add-state
-add-state c = search needs
+pos-place-requires : tie.Need-pos-place-requires
+pos-place-requires c κs = search needs
 
 mul-state : tie.Need-mul-state
 mul-state c = search needs
@@ -24,19 +24,13 @@ same-length c = search needs
 
 returns : tie.Need-returns
 unfolding withSent
-returns c = rw (ne-eqb _ _ (c .if1 .taken))
+returns c = rw (c .before .before .pos-place .ensures, ne-eqb _ _ (c .if1 .taken))
 
-mul-q : tie.Need-mul-q
-mul-q c = search needs
+cast-i : tie.Need-cast-i
+cast-i c = search needs
 
-cast-q : tie.Need-cast-q
-cast-q c = search needs
-
-add-q : tie.Need-add-q
-add-q c = search needs
-
-add-state-2 : tie.Need-add-state-2
-add-state-2 c = search needs
+mark-place-requires : tie.Need-mark-place-requires
+mark-place-requires c κs = search needs
 
 mul-state-2 : tie.Need-mul-state-2
 mul-state-2 c = search needs
@@ -53,8 +47,8 @@ mul-state-3 c = search needs
 array-read-state : tie.Need-array-read-state
 array-read-state c = search needs
 
-add-state-3 : tie.Need-add-state-3
-add-state-3 c = search needs
+value-place-requires : tie.Need-value-place-requires
+value-place-requires c κs = search needs
 
 mul-state-4 : tie.Need-mul-state-4
 mul-state-4 c = search needs
@@ -67,28 +61,28 @@ same-length-2 c = search needs
 
 returns-2 : tie.Need-returns-2
 unfolding withSent
-returns-2 c = rw (eq-eqb _ _ (c .before .before .before .if1 .left))
+returns-2 c =
+    let k = c .before .before .before .before .before in
+    rw (c .value-place .ensures, c .before .before .mark-place .ensures, k .before .before .pos-place .ensures, eq-eqb _ _ (k .if1 .left))
 
 pub put-choice-spec : {M : Type 1} → statement M
 put-choice-spec =
     tie.close
     (tie.spec
     slice-write-state
-    add-state
+    pos-place-requires
     mul-state
     slice-write-state-2
     same-length
     returns
-    mul-q
-    cast-q
-    add-q
-    add-state-2
+    cast-i
+    mark-place-requires
     mul-state-2
     slice-write-state-3
     cast-state
     mul-state-3
     array-read-state
-    add-state-3
+    value-place-requires
     mul-state-4
     slice-write-state-4
     same-length-2

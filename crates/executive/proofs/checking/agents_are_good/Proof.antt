@@ -19,11 +19,11 @@ Inv-loop table state n a₀ a = (a ≤ n) × (n ≤ 16) × (allBelow a (goodPlac
 abbrev μ-loop : tie.MeasureT-loop
 μ-loop table state n a₀ a = n - a
 
-shared-slice-read-n : tie.Need-shared-slice-read-n Inv-loop μ-loop
-shared-slice-read-n c = omega arith
+agent-count-requires : tie.Need-agent-count-requires Inv-loop μ-loop
+agent-count-requires c κs = omega arith
 
 cast-n : tie.Need-cast-n Inv-loop μ-loop
-cast-n c = omega (arith, c .shared-slice-known3 .given 0)
+cast-n c = let low = few (c .before .before .before .args .table .now) (c .before .before .before .pre .2) in omega arith
 
 loop-holds : tie.Need-loop-holds Inv-loop μ-loop
 loop-holds c = let low = few (c .before .before .before .args .table .now) (c .before .before .before .pre .2) in (omega arith, omega arith, below-none _)
@@ -59,7 +59,7 @@ agents-are-good-spec =
     (tie.spec
     Inv-loop
     μ-loop
-    shared-slice-read-n
+    agent-count-requires
     cast-n
     loop-holds
     places-are-good-requires

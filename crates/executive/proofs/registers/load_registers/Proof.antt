@@ -19,11 +19,8 @@ loop-holds : tie.Need-loop-holds Inv-loop μ-loop
 unfolding listed
 loop-holds c = (zero-le, refl)
 
-mul-four-from : tie.Need-mul-four-from Inv-loop μ-loop
-mul-four-from c = omega arith
-
-add-four-from : tie.Need-add-four-from Inv-loop μ-loop
-add-four-from c = omega arith
+reg-place-requires : tie.Need-reg-place-requires Inv-loop μ-loop
+reg-place-requires c κs = omega arith
 
 four-from-requires : tie.Need-four-from-requires Inv-loop μ-loop
 four-from-requires c κs = omega arith
@@ -42,9 +39,9 @@ loop-less c = omega arith
 
 loop-again : tie.Need-loop-again Inv-loop μ-loop
 loop-again c =
-    let l = c .before .before .loop in
-    let g = c .before .before .before .before .args in
-    (omega arith, rw (c .four-from .ensures, l .inv .1) (listed-set (registersOf (g .state .now)) (replicate 16 (replicate 4 0)) (l .a) [] (omega arith)))
+    let l = c .before .before .before .loop in
+    let g = c .before .before .before .before .before .args in
+    (omega arith, rw (c .four-from .ensures, c .before .reg-place .ensures, l .inv .1) (listed-set (registersOf (g .state .now)) (replicate 16 (replicate 4 0)) (l .a) [] (omega arith)))
 
 returns : tie.Need-returns Inv-loop μ-loop
 returns c =
@@ -61,8 +58,7 @@ load-registers-spec =
     Inv-loop
     μ-loop
     loop-holds
-    mul-four-from
-    add-four-from
+    reg-place-requires
     four-from-requires
     mul-g
     array-set-from-g

@@ -35,20 +35,10 @@ part-copy-end-2 c =
     let z = c .before .before .before .clear in
     let g = c .before .before .before .before .before .before .before .args in
     let n = ap length (z .ensures) ∙ length-replicate {A = ℕ} (length (g .state .now)) 0 in
-    let m = length-set (z .last .0) 0 1 in
-    omega arith
+    simp length-set (omega arith)
 
 copy-requires : tie.Need-copy-requires
 copy-requires c κs = search needs
-
-same-length : tie.Need-same-length
-same-length c =
-    let g = c .before .before .before .before .before .before .before .before .before .before .before in
-    let z = c .before .before .before .before .before .before .before .clear in
-    let k = c .before .before .copy in
-    ap length (start-put (g .args .table .now) (z .last .0) (k .last .1 .0) (z .ensures ∙ ap (λ (n : ℕ). replicate n 0) (g .pre .1)) (k .ensures))
-    ∙ start-length (g .args .table .now) (g .pre .0)
-    ∙ sym (g .pre .1)
 
 returns : tie.Need-returns
 returns c =
@@ -56,6 +46,11 @@ returns c =
     let z = c .before .before .before .before .before .before .before .clear in
     let k = c .before .before .copy in
     start-put (g .args .table .now) (z .last .0) (k .last .1 .0) (z .ensures ∙ ap (λ (n : ℕ). replicate n 0) (g .pre .1)) (k .ensures)
+
+same-length : tie.Need-same-length
+same-length c =
+    let g = c .before .before .before .before .before .before .before .before .before .before .before in
+    ap length (returns c) ∙ start-length (g .args .table .now) (g .pre .0) ∙ sym (g .pre .1)
 
 pub put-start-spec : {M : Type 1} → statement M
 put-start-spec =

@@ -1,7 +1,7 @@
 use mathlib.Core.Path.{_≡_, sym, ap, _∙_}
-use lib.Seq.{length-take-le, length-front}
 use Rattle.tables.specs.Frames.{framesOf}
 use Rattle.reading.specs.Reader.{inPlace}
+use Rattle.reading.specs.Calls.{readOutcome}
 use Rattle.reading.specs.declared.Told.{Told}
 use Rattle.reading.proofs.Outcomes.{short-table, not-in-place, not-good, all-good}
 use borrow.Author.Needs.{needs}
@@ -44,23 +44,14 @@ returns-3 c =
     (c .before .before .before .take-rows .ensures .0)
     (c .if3 .taken)
 
-slice-aggregate-copy : tie.Need-slice-aggregate-copy
-slice-aggregate-copy c = search needs
+slice-aggregate-put-table : tie.Need-slice-aggregate-put-table
+slice-aggregate-put-table c = search needs
 
-slice-relend-prefix-copy : tie.Need-slice-relend-prefix-copy
-slice-relend-prefix-copy c = search needs
-
-slice-aggregate-copy-2 : tie.Need-slice-aggregate-copy-2
-slice-aggregate-copy-2 c =
-    let e = c .before .before .before .before .before .before .before .before in
-    sym (length-take-le 2129 (e .before .before .before .before .before .before .args .table .now) (e .before .before .before .if1 .left))
-
-copy-requires : tie.Need-copy-requires
-copy-requires c κs =
-    let e = c .before .before .before .before .before .before .before .before in
+put-table-requires : tie.Need-put-table-requires
+put-table-requires c κs =
     let t = c .before .before .before .before .before in
-    length-take-le 2129 (e .before .before .before .before .before .before .args .table .now) (e .before .before .before .if1 .left)
-    ∙ sym (t .take-rows .kept .1 .0 ∙ t .before .before .blank-table .ensures)
+    let e = t .before .before .before in
+    (t .take-rows .kept .1 .0 ∙ t .before .before .blank-table .ensures, e .before .before .before .if1 .left)
 
 same-length : tie.Need-same-length
 same-length c = search needs
@@ -70,16 +61,18 @@ returns-4 c =
     let e = c .before .before .before .before .before .before .before .before .before .before .before in
     let t = c .before .before .before .before .before .before .before .before in
     let g = e .before .before .before .before .before .before .args in
-    all-good
+    let z = c .before .before .before .before .before .if3 .left in
+    ap (readOutcome (t .take-rows .result)) (c .before .before .put-table .ensures)
+    ∙ all-good
     (g .text .now)
     (g .table .now)
     (e .before .before .before .if1 .left)
     (placed e)
     (t .take-rows .result)
     (t .take-rows .ensures .0)
-    (c .before .before .before .before .before .if3 .left)
-    (c .before .before .copy .last .1 .0)
-    (c .before .before .copy .ensures ∙ t .take-rows .ensures .1 (c .before .before .before .before .before .if3 .left))
+    z
+    _
+    (t .take-rows .ensures .1 z)
 
 pub read-spec : {M : Type 1} → statement M
 read-spec =
@@ -92,9 +85,7 @@ read-spec =
     slice-aggregate-take-rows
     take-rows-requires
     returns-3
-    slice-aggregate-copy
-    slice-relend-prefix-copy
-    slice-aggregate-copy-2
-    copy-requires
+    slice-aggregate-put-table
+    put-table-requires
     same-length
     returns-4)

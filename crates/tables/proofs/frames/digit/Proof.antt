@@ -1,4 +1,5 @@
-use Prim.Native.Nat.{_<_}
+use mathlib.Core.Path.{_≡_}
+use Prim.Native.Nat.{ℕ, _<_}
 use native.Mathlib.Omega.{arith}
 use borrow.Author.Needs.{needs}
 use borrow.Author.Tests.{lt-leb}
@@ -6,6 +7,10 @@ use Rattle.tables.specs.Lines.{hexDigit}
 use Rattle.tables.proofs.Tests.{firsts}
 use Rattle.tables.proofs.frames.digit.Statement.{statement}
 use Rattle.tables.proofs.frames.digit.Tie as tie
+
+before-digits : (b : ℕ) → b < 48 → 16 ≡ hexDigit b
+unfolding hexDigit
+before-digits b h = let k : b < 65 = omega arith in rw (lt-leb _ _ h, lt-leb _ _ k)
 
 cast-result : tie.Need-cast-result
 cast-result c = search needs
@@ -25,8 +30,7 @@ unfolding hexDigit
 returns-2 c = search (needs, firsts) depth 14
 
 returns-3 : tie.Need-returns-3
-unfolding hexDigit
-returns-3 c = let h : c .before .args .b < 65 = omega arith in rw (lt-leb _ _ (c .if1 .taken), lt-leb _ _ h)
+returns-3 c = search (needs, before-digits)
 
 returns-4 : tie.Need-returns-4
 unfolding hexDigit
