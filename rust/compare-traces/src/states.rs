@@ -1,4 +1,5 @@
-//! The states in an output of the trace program, and where two of them differ.
+//! The states in an output of the trace program, and where two of them differ. The fields of a line
+//! are those of `stepIn` in `crates/demands/specs/Traces.antt`, of which demand 3 is proved.
 
 use std::collections::BTreeMap;
 use std::fmt;
