@@ -52,7 +52,7 @@ fn agent_is_good(table: &[u32], a: usize) -> bool
     if c < 1 {
         return false;
     }
-    if MOST_ROWS < c as usize {
+    if c > MOST_ROWS as u32 {
         return false;
     }
     if !rows_are_good(table, a, c) {
