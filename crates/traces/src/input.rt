@@ -11,6 +11,8 @@ ghost use Rattle.traces.specs.Input.{longestInput, tableBytes, tableText
 ghost use Rattle.traces.specs.Places.{lineLength, choiceAt};
 
 const CHOICE_DIGITS: usize = 12;
+// Where the time stands in a choice line, after the agent.
+pub const TIME_AT: usize = 4;
 // A choice line, with its newline.
 pub const CHOICE_BYTES: usize = CHOICE_DIGITS + 1;
 

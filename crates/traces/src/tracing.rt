@@ -1,6 +1,7 @@
 // The choice lines of an input, one step after the other, and the output's last line.
 use crate::TraceReply;
 use crate::input::CHOICE_BYTES;
+use crate::input::TIME_AT;
 use crate::writing::LAST_BYTES;
 use crate::writing::STEP_BYTES;
 use crate::writing::put_last_line;
@@ -10,6 +11,7 @@ use choices::stepping::act;
 use choices::stepping::choice_reply;
 use executive::registers::load_registers;
 use executive::starting::put_start;
+use tables::frames::AGENT_AT;
 use tables::frames::field;
 use tables::replies::ACCEPTED;
 ghost use mathlib.Core.Path.{_≡_};
@@ -56,8 +58,8 @@ pub fn trace_steps(choices: &[u8], table: &[u32], out: &mut [u8]) -> TraceReply
     let mut at = 0;
     let mut end = 0;
     while at < choices.len() {
-        let a = field(choices, at + 2, 2);
-        let t = field(choices, at + 4, 8);
+        let a = field(choices, at + AGENT_AT, 2);
+        let t = field(choices, at + TIME_AT, 8);
         let reply = choice_reply(table, &state, a, t);
         if reply != ACCEPTED {
             return finish(out, end, reply, n);

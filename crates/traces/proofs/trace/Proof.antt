@@ -27,7 +27,7 @@ reading : (c : tie.After-read)
 reading c =
     let e = c .before .before .before .before .table-end .ensures in
     let b = c .before .before .before .blank-table in
-    record { short = c .before .before .before .before .before .if2 .left; place = e .0; counted = e .1; blank = b .result; blank-long = b .ensures; read = c .read .ensures }
+    record { short = omega arith; place = e .0; counted = e .1; blank = b .result; blank-long = b .ensures; read = c .read .ensures }
 
 returns : tie.Need-returns
 returns c = too-short _ _ (omega arith)
@@ -80,8 +80,16 @@ same-length-3 c = search needs
 returns-4 : tie.Need-returns-4
 returns-4 c =
     one-line _ _ _ _ _ (c .before .before .before .before .before .before .before .before .before .before .before .before .before .before .before .before .if1 .left) _ _
-    (choice-malformed (reading (c .before .before .before .before .before .before .before .before .before .before)) (c .before .before .before .before .before .before .before .if3 .left) (c .before .before .before .before .before .first-bad-choice .ensures) (c .before .before .before .before .if4 .taken))
+    (choice-malformed (reading (c .before .before .before .before .before .before .before .before .before .before)) (c .before .before .before .before .before .before .before .if3 .left) (c .before .before .before .before .before .first-bad-choice .ensures) (λ z. omega arith))
     (c .before .before .finish3 .ensures)
+
+returns-5 : tie.Need-returns-5
+returns-5 c =
+    let tb = c .before .before .before .before .before .before .before .before .before .before .before .before .read .last .1 .0 in
+    done _ _ _ _ _ (c .before .before .before .before .before .before .before .before .before .before .before .before .before .before .before .before .before .before .if1 .left) _
+    (all-steps (reading (c .before .before .before .before .before .before .before .before .before .before .before .before)) (c .before .before .before .before .before .before .before .before .before .if3 .left) (c .before .before .before .before .before .before .before .first-bad-choice .ensures) (c .before .before .before .before .before .before .if4 .left)
+    ∙ ap (λ (l : List ℕ). traceFrom tb (startWords tb) 0 (choicesIn (lines l))) (sym (to-end (c .before .before .before .before .before .before .before .before .before .before .before .before .before .before .before .before .before .before .before .before .before .args .input .now) (c .before .before .before .before .before .before .before .before .before .before .before .before .before .before .before .before .table-end .result .at))))
+    (c .before .before .trace-steps .ensures)
 
 sub-trace-steps : tie.Need-sub-trace-steps
 sub-trace-steps c = search needs
@@ -107,14 +115,6 @@ trace-steps-requires c κs =
 
 same-length-4 : tie.Need-same-length-4
 same-length-4 c = search needs
-
-returns-5 : tie.Need-returns-5
-returns-5 c =
-    let tb = c .before .before .before .before .before .before .before .before .before .before .before .before .read .last .1 .0 in
-    done _ _ _ _ _ (c .before .before .before .before .before .before .before .before .before .before .before .before .before .before .before .before .before .before .if1 .left) _
-    (all-steps (reading (c .before .before .before .before .before .before .before .before .before .before .before .before)) (c .before .before .before .before .before .before .before .before .before .if3 .left) (c .before .before .before .before .before .before .before .first-bad-choice .ensures) (c .before .before .before .before .before .before .if4 .left)
-    ∙ ap (λ (l : List ℕ). traceFrom tb (startWords tb) 0 (choicesIn (lines l))) (sym (to-end (c .before .before .before .before .before .before .before .before .before .before .before .before .before .before .before .before .before .before .before .before .before .args .input .now) (c .before .before .before .before .before .before .before .before .before .before .before .before .before .before .before .before .table-end .result .at))))
-    (c .before .before .trace-steps .ensures)
 
 pub trace-spec : {M : Type 1} → statement M
 trace-spec =

@@ -1,4 +1,7 @@
 -- `is_better` meets its contract: the tests in their order. Assumes nothing.
+use mathlib.Core.Path.{ap}
+use native.Mathlib.Omega.{arith}
+use Rattle.tables.specs.declared.Row.{Row}
 use Rattle.choices.specs.State.{pool}
 use Rattle.choices.proofs.Looking.{too-late, too-low, not-sent, sent}
 use borrow.Author.Needs.{needs}
@@ -9,10 +12,16 @@ row-at-requires : tie.Need-row-at-requires
 row-at-requires c κs = search needs
 
 returns : tie.Need-returns
-returns c = let g = c .before .before .before .before .before .before .args in too-late (g .table .now) (pool (g .state .now)) (g .r) (g .b) (g .i) (g .least) (rw (c .before .before .before .row-at .ensures) at (c .if1 .taken))
+returns c =
+    let g = c .before .before .before .before .before .before .args in
+    let e = ap (λ (x : Row). x .late) (c .before .before .before .row-at .ensures) in
+    too-late (g .table .now) (pool (g .state .now)) (g .r) (g .b) (g .i) (g .least) (omega arith)
 
 returns-2 : tie.Need-returns-2
-returns-2 c = let g = c .before .before .before .before .before .before .before .before .args in too-low (g .table .now) (pool (g .state .now)) (g .r) (g .b) (g .i) (g .least) (rw (c .before .before .before .before .before .row-at .ensures) at (c .if2 .taken))
+returns-2 c =
+    let g = c .before .before .before .before .before .before .before .before .args in
+    let e = ap (λ (x : Row). x .late) (c .before .before .before .before .before .row-at .ensures) in
+    too-low (g .table .now) (pool (g .state .now)) (g .r) (g .b) (g .i) (g .least) (omega arith)
 
 mark-requires : tie.Need-mark-requires
 mark-requires c κs = search needs
