@@ -12,6 +12,7 @@ use choices::layout::position;
 use choices::layout::reg_place;
 use choices::layout::value;
 use choices::layout::value_place;
+use tables::layout::LAST_TIME;
 use tables::layout::agent_count;
 use tables::layout::row_count;
 use tables::rows::row_at;
@@ -26,8 +27,6 @@ ghost use Rattle.tables.specs.Layout.{agents, rows, tableWords};
 ghost use Rattle.tables.specs.Table.{goodTable};
 ghost use Rattle.choices.specs.State.{posPlace, regPlace, markPlace, valuePlace, stateWords};
 ghost use Rattle.choices.specs.Fit.{goodMark, goodPlaces, fits};
-
-const LAST_TIME: u32 = 1000000;
 
 // Whether row i of agent a, below the agent's position, has a mark and a value that it may have.
 fn mark_is_good(table: &[u32], state: &[u32], a: usize, i: usize) -> bool

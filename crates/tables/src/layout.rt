@@ -19,6 +19,8 @@ pub const STARTS_AT: usize = 1 + MOST_AGENTS;
 pub const ROWS_AT: usize = STARTS_AT + REGISTERS * MOST_AGENTS;
 
 pub const TABLE_WORDS: usize = ROWS_AT + ROW_WORDS * MOST_ROWS * MOST_AGENTS;
+// The greatest late of a row, and so the greatest clock.
+pub const LAST_TIME: u32 = 1000000;
 
 // The number of agents.
 pub fn agent_count(table: &[u32]) -> u32

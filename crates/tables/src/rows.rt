@@ -1,6 +1,7 @@
 // A row of a table: its words taken apart, its family, and its refusal.
 use crate::Family;
 use crate::Row;
+use crate::layout::LAST_TIME;
 use crate::layout::row_place;
 use crate::replies::ACCEPTED;
 use crate::replies::BAD_ROW;
@@ -112,7 +113,7 @@ pub fn row_reply(r: Row, i: u32, c: u32, e: u32, l: u32) -> u32
     if r.late <= r.early {
         return BAD_WINDOW;
     }
-    if 1000000 < r.late {
+    if LAST_TIME < r.late {
         return BAD_WINDOW;
     }
     if r.early < e {
