@@ -17,7 +17,7 @@ use Rattle.executive.proofs.Start.{start-low}
 use Rattle.demands.specs.Demand2.{Table, Fitting}
 use Rattle.demands.specs.Steps.{Step, stepsFrom, comesTo, lastOf}
 use Rattle.pharos.specs.Prefix.{OneBegins}
-use Rattle.demands.specs.Demand3.{AllEnded}
+use Rattle.demands.specs.Demand3.{AllAtTheirEnd}
 use Rattle.demands.specs.Traces.{traceSteps, choicesOfInput, shows, lastPosition, AcceptedText, TracesAgree, TracesEndAlike}
 use Rattle.demands.proofs.Demand2.{start-is-models}
 use Rattle.demands.proofs.Demand3.{deterministic-from, same-courses-from}
@@ -66,7 +66,7 @@ module _ (text : List ℕ) (ok : AcceptedText text) where
 
   -- a run whose last positions are the row counts has ended all agents
   ends : (cs : List ℕ) → ((b : ℕ) → b < agents rules → lastPosition (comesTo b (stepsFrom rules begin cs)) ≡ rows rules b)
-      → AllEnded rules (runFrom rules begin 0 cs .state)
+      → AllAtTheirEnd rules (runFrom rules begin 0 cs .state)
   ends cs last b h =
       let low : b < 16 = omega (arith, few rules (table .good)) in
       let zero-first : pos begin b ≡ 0 = start-low rules (omega (arith, table .long)) (posPlace b) (omega arith) (omega arith) in
@@ -74,7 +74,7 @@ module _ (text : List ℕ) (ok : AcceptedText text) where
       ∙ last-from (comesTo b (stepsFrom rules begin cs)) (agentAt begin b) (record { pos = 0; regs = [] }) zero-first
       ∙ last b h
 
-  alike : (cs ds : List ℕ) → AllEnded rules (runFrom rules begin 0 cs .state) → AllEnded rules (runFrom rules begin 0 ds .state)
+  alike : (cs ds : List ℕ) → AllAtTheirEnd rules (runFrom rules begin 0 cs .state) → AllAtTheirEnd rules (runFrom rules begin 0 ds .state)
       → (b : ℕ) → comesTo b (stepsFrom rules begin cs) ≡ comesTo b (stepsFrom rules begin ds)
   alike cs ds end end′ b = by-cases (decLt b (agents rules))
       (λ h. ap (drop 1) (same-courses-from rules begin cs ds table starts end end′ b h))
@@ -91,8 +91,8 @@ traces-end-alike text more other out out′ ok end end′ b =
     let (cs, e) = run-of text ok more out in
     let (ds, f) = run-of text ok other out′ in
     let w = words-read text ok in
-    let all : AllEnded (rules text ok) (runFrom (rules text ok) (begin text ok) 0 cs .state) =
+    let all : AllAtTheirEnd (rules text ok) (runFrom (rules text ok) (begin text ok) 0 cs .state) =
     ends text ok cs (λ c h. ap (λ (k : List Step). lastPosition (comesTo c k)) (sym e) ∙ (rw w at (end c (rw w h)))) in
-    let all′ : AllEnded (rules text ok) (runFrom (rules text ok) (begin text ok) 0 ds .state) =
+    let all′ : AllAtTheirEnd (rules text ok) (runFrom (rules text ok) (begin text ok) 0 ds .state) =
     ends text ok ds (λ c h. ap (λ (k : List Step). lastPosition (comesTo c k)) (sym f) ∙ (rw w at (end′ c (rw w h)))) in
     ap (comesTo b) e ∙ alike text ok cs ds all all′ b ∙ sym (ap (comesTo b) f)

@@ -12,7 +12,7 @@ use Rattle.tables.specs.Layout.{row, rows}
 use Rattle.tables.proofs.Good.{window, late-climbs, some as some-agents, some-rows}
 use Rattle.choices.specs.declared.Agent.{Agent}
 use Rattle.demands.specs.Instance.{published}
-use Rattle.demands.specs.Assumed.{AssumptionsHold, StartIsGood, StepsRaise, FilterIs002's, InvariantsHold}
+use Rattle.demands.specs.Assumed.{AssumptionsHold, StartIsGood, StepsRaise, FilterOfTablesIs002's, InvariantsHold}
 use Rattle.demands.proofs.Rows.{goes-on}
 use Rattle.demands.proofs.Demand2.{start-is-models}
 
@@ -37,8 +37,8 @@ steps-raise tb a pre post e =
     let (up, _) = goes-on tb a (pre .st a) (pre .msgs) (row tb a (pre .st a .pos)) (e .got) in
     omega arith
 
-pub filter-is-002's-of-tables : FilterIs002's
-filter-is-002's-of-tables tb g h r b = filter-is-002's (published tb) (steps-raise tb) r b
+pub filter-of-tables-is-002's : FilterOfTablesIs002's
+filter-of-tables-is-002's tb g h r b = filter-is-002's (published tb) (steps-raise tb) r b
 
 pub invariants-hold : InvariantsHold
 invariants-hold tb table h r =

@@ -15,7 +15,7 @@ use Rattle.executive.proofs.Fitting.{fits-says}
 use Rattle.demands.specs.Instance.{published, stateOf}
 use Rattle.demands.specs.Demand2.{Table}
 use Rattle.pharos.specs.Prefix.{OneBegins}
-use Rattle.demands.specs.Demand3.{DeterministicFrom, AllEnded, SameEndsFrom, SameCourses}
+use Rattle.demands.specs.Demand3.{DeterministicFrom, AllAtTheirEnd, SameEndsFrom, SameCoursesFrom}
 use Rattle.demands.proofs.Assumed.{assumptions-hold}
 use Rattle.demands.proofs.Decode.{state-low, same-past-clock}
 use Rattle.demands.proofs.Behaves.{run-is-models}
@@ -27,7 +27,7 @@ deterministic-from tb st cs ds table state b h =
     subst₂ OneBegins (x .filtered b h) (y .filtered b h) (determinacy (published tb) (assumptions-hold tb table) (x .behaviour) (y .behaviour) b)
 
 -- an agent whose position is its row count has ended
-all-ended : (tb st : List ℕ) → Table tb → AllEnded tb st → (b : ℕ) → b < agents tb → leb (rows tb b) (stateOf tb st b .pos) ≡ true
+all-ended : (tb st : List ℕ) → Table tb → AllAtTheirEnd tb st → (b : ℕ) → b < agents tb → leb (rows tb b) (stateOf tb st b .pos) ≡ true
 all-ended tb st table end b h =
     let e = end b h in
     rw (state-low tb st b (omega (arith, few tb (table .good)))) (le-leb (rows tb b) (pos st b) (omega arith))
@@ -41,7 +41,7 @@ same-ends-from tb st cs ds table state end end′ =
     let (states, messages) = behaviours-end-alike (published tb) (assumptions-hold tb table) (x .behaviour) (y .behaviour) (all-ended tb out table end) (all-ended tb out′ table end′) in
     same-past-clock tb out out′ (fits-says tb out (x .state .fit)) (fits-says tb out′ (y .state .fit)) (x .state .long) (y .state .long) states messages
 
-pub same-courses-from : SameCourses
+pub same-courses-from : SameCoursesFrom
 same-courses-from tb st cs ds table state end end′ b h =
     let out = runFrom tb st 0 cs .state in
     let out′ = runFrom tb st 0 ds .state in

@@ -26,7 +26,7 @@ use Rattle.demands.specs.Demand2.{Table, Fitting}
 use Rattle.demands.specs.Steps.{Step, stepsFrom, comesTo, passed, begun, stepsInRun, agentsAndTimes, lastOf, RunMakes}
 use Rattle.demands.specs.Runs.{withoutPast, Behaves, RunCallIsModels}
 use Rattle.pharos.specs.Prefix.{OneBegins}
-use Rattle.demands.specs.Demand3.{Deterministic, AllEnded, SameEnds}
+use Rattle.demands.specs.Demand3.{Deterministic, AllAtTheirEnd, SameEnds}
 use Rattle.demands.proofs.Demand2.{start-is-models}
 use Rattle.demands.proofs.Made.{steps-counted, steps-chosen, steps-each, steps-last, chosen-low}
 use Rattle.demands.proofs.Behaves.{run-is-models}
@@ -77,7 +77,7 @@ module _ (tb : List ℕ) where
 
 -- a run that has ended every agent in the lent words has done so from the start state
 ended-from : (tb st : List ℕ) (table : Table (tablePart tb)) → stateWords ≤ length st → (cs : List ℕ) → runRefusal tb st cs ≡ 0
-    → AllEnded tb (runInto tb st cs .state) → AllEnded (tablePart tb) (runFrom (tablePart tb) (startWords (tablePart tb)) 0 cs .state)
+    → AllAtTheirEnd tb (runInto tb st cs .state) → AllAtTheirEnd (tablePart tb) (runFrom (tablePart tb) (startWords (tablePart tb)) 0 cs .state)
 ended-from tb st table long cs e end b h =
     let low : b < 16 = omega (arith, few (tablePart tb) (table .good)) in
     ap (λ (s : Agent). s .pos) (sym (agent-is tb st table long b low cs e)) ∙ end b (omega (arith, agents-part tb)) ∙ sym (rows-part tb b low)

@@ -22,8 +22,8 @@ abbrev pub StepsRaise : Type 0
 StepsRaise = (tb : List ℕ) → Raises (published tb)
 
 -- So the states that an agent passes through are 002's filter(history, b), which is unstutter[project(history, b)].
-abbrev pub FilterIs002's : Type 0
-FilterIs002's = (tb : List ℕ) (g h : SystemState (published tb)) (r : Behaviour (published tb) g h) (b : ℕ)
+abbrev pub FilterOfTablesIs002's : Type 0
+FilterOfTablesIs002's = (tb : List ℕ) (g h : SystemState (published tb)) (r : Behaviour (published tb) g h) (b : ℕ)
     → (u : List Agent) × Unstutters (project (published tb) (history (published tb) r) b) u × (filter (published tb) r b ≡ reverse u)
 
 -- Inv and MsgInv of every behaviour from the start state

@@ -21,23 +21,23 @@ abbrev pub DeterministicFrom : Type 0
 DeterministicFrom = (tb st cs ds : List ℕ) → Table tb → Fitting tb st → (b : ℕ) → b < agents tb → OneBegins (passed tb st cs b) (passed tb st ds b)
 
 -- all agents have come to their end
-abbrev pub AllEnded : (tb st : List ℕ) → Type 0
-AllEnded tb st = (b : ℕ) → b < agents tb → pos st b ≡ rows tb b
+abbrev pub AllAtTheirEnd : (tb st : List ℕ) → Type 0
+AllAtTheirEnd tb st = (b : ℕ) → b < agents tb → pos st b ≡ rows tb b
 
 -- Where both runs bring all agents to their end, the two records of 1,105 words that they leave agree in every word but the clock.
 -- Neither run is refused before it begins (1, 16, 8); that further choices are refused after the end changes nothing.
 abbrev pub SameEnds : Type 0
 SameEnds = (tb st st′ cs ds : List ℕ) → runRefusal tb st cs ≡ 0 → runRefusal tb st′ ds ≡ 0
-    → AllEnded tb (runInto tb st cs .state) → AllEnded tb (runInto tb st′ ds .state)
+    → AllAtTheirEnd tb (runInto tb st cs .state) → AllAtTheirEnd tb (runInto tb st′ ds .state)
     → drop 1 (statePart (runInto tb st cs .state)) ≡ drop 1 (statePart (runInto tb st′ ds .state))
 
 abbrev pub SameEndsFrom : Type 0
 SameEndsFrom = (tb st cs ds : List ℕ) → Table tb → Fitting tb st
-    → AllEnded tb (runFrom tb st 0 cs .state) → AllEnded tb (runFrom tb st 0 ds .state)
+    → AllAtTheirEnd tb (runFrom tb st 0 cs .state) → AllAtTheirEnd tb (runFrom tb st 0 ds .state)
     → drop 1 (runFrom tb st 0 cs .state) ≡ drop 1 (runFrom tb st 0 ds .state)
 
 -- And then every agent has passed through the same states in both.
-abbrev pub SameCourses : Type 0
-SameCourses = (tb st cs ds : List ℕ) → Table tb → Fitting tb st
-    → AllEnded tb (runFrom tb st 0 cs .state) → AllEnded tb (runFrom tb st 0 ds .state)
+abbrev pub SameCoursesFrom : Type 0
+SameCoursesFrom = (tb st cs ds : List ℕ) → Table tb → Fitting tb st
+    → AllAtTheirEnd tb (runFrom tb st 0 cs .state) → AllAtTheirEnd tb (runFrom tb st 0 ds .state)
     → (b : ℕ) → b < agents tb → passed tb st cs b ≡ passed tb st ds b
