@@ -1,19 +1,24 @@
 // The trace program: a table and choice lines on standard input, the trace of their steps on standard output.
+use traces::LONGEST_INPUT;
+use traces::LONGEST_OUTPUT;
 ghost use mathlib.Core.Path.{_≡_};
+ghost use Prim.Native.Nat.{_+_};
 ghost use lib.ListN.{length};
+ghost use Rattle.traces.specs.Input.{longestInput};
+ghost use Rattle.traces.specs.Calls.{longestOutput};
 
 // One byte more than an input may have, so that a longer one can be told.
-fn input_buffer() -> [u8; 65537]
-    ensures { λ r. ⌜ 65537 ≡ length r ⌝ }
+fn input_buffer() -> [u8; LONGEST_INPUT + 1]
+    ensures { λ r. ⌜ longestInput + 1 ≡ length r ⌝ }
 {
-    [0; 65537]
+    [0; LONGEST_INPUT + 1]
 }
 
 // Room for the longest output.
-fn output_buffer() -> [u8; 24073]
-    ensures { λ r. ⌜ 24073 ≡ length r ⌝ }
+fn output_buffer() -> [u8; LONGEST_OUTPUT]
+    ensures { λ r. ⌜ longestOutput ≡ length r ⌝ }
 {
-    [0; 24073]
+    [0; LONGEST_OUTPUT]
 }
 
 fn main() {

@@ -24,9 +24,9 @@ mod writing; // writing.rt: hexadecimal text in the output buffer
 mod tracing; // tracing.rt: the steps and the last line
 
 // Every row's step and the last line: 512 lines of 47 bytes and one of 9.
-const LONGEST_OUTPUT: usize = MOST_AGENTS * MOST_ROWS * STEP_BYTES + LAST_BYTES;
+pub const LONGEST_OUTPUT: usize = MOST_AGENTS * MOST_ROWS * STEP_BYTES + LAST_BYTES;
 
-const LONGEST_INPUT: usize = 65536;
+pub const LONGEST_INPUT: usize = 65536;
 
 // The reply of a trace, and the length of its text.
 #[repr(C)]
