@@ -41,8 +41,8 @@ fits tb st =
     ∷ leb (clock st) 1000000
     ∷ inTime tb st (clock st)
     ∷ allBelow (agents tb) (goodPlaces tb st)
-    ∷ zeroFrom st (posPlace (agents tb)) 17
-    ∷ zeroFrom st (regPlace (agents tb)) 81
-    ∷ zeroFrom st (markPlace (agents tb) 0) 593
+    ∷ zeroFrom st (posPlace (agents tb)) (regPlace 0)
+    ∷ zeroFrom st (regPlace (agents tb)) (markPlace 0 0)
+    ∷ zeroFrom st (markPlace (agents tb) 0) (valuePlace 0 0)
     ∷ zeroFrom st (valuePlace (agents tb) 0) stateWords
     ∷ [])

@@ -92,8 +92,8 @@ fn agents_are_good(table: &[u32], state: &[u32]) -> bool
 // Whether the places from agent n on are 0.
 fn unused_are_zero(state: &[u32], n: usize) -> bool
     requires { ⌜ (stateWords ≤ length (now state)) × (n ≤ 16) ⌝ }
-    ensures { λ r. ⌜ r ≡ every (zeroFrom (now (state .entry)) (posPlace n) 17 ∷ zeroFrom (now (state .entry)) (regPlace n) 81
-        ∷ zeroFrom (now (state .entry)) (markPlace n 0) 593 ∷ zeroFrom (now (state .entry)) (valuePlace n 0) stateWords ∷ []) ⌝ }
+    ensures { λ r. ⌜ r ≡ every (zeroFrom (now (state .entry)) (posPlace n) (regPlace 0) ∷ zeroFrom (now (state .entry)) (regPlace n) (markPlace 0 0)
+        ∷ zeroFrom (now (state .entry)) (markPlace n 0) (valuePlace 0 0) ∷ zeroFrom (now (state .entry)) (valuePlace n 0) stateWords ∷ []) ⌝ }
 {
     if !all_zero(state, pos_place(n), REGISTERS_AT) {
         return false;
