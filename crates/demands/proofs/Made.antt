@@ -11,7 +11,6 @@ use lib.Dec.{eqb}
 use lib.ListN.{length, take, getD}
 use borrow.Author.Tests.{eq-eqb, ne-eqb}
 use Rattle.tables.specs.Layout.{agents}
-use Rattle.tables.proofs.Good.{few}
 use Rattle.choices.specs.declared.Agent.{Agent}
 use Rattle.choices.specs.State.{agentAt}
 use Rattle.choices.specs.Step.{choiceReply, accepted}
@@ -21,6 +20,7 @@ use Rattle.executive.specs.Run.{RunOutcome, runFrom}
 use Rattle.executive.proofs.Runs.{run-go, run-stop}
 use Rattle.demands.specs.Demand2.{Table, Fitting}
 use Rattle.demands.specs.Steps.{Step, step, stepsFrom, comesTo, agentsAndTimes, lastOf}
+use Rattle.demands.proofs.Step.{low}
 use Rattle.demands.proofs.Demand2.{choice-is-models}
 
 module _ (tb st : List ℕ) (a t : ℕ) (cs : List ℕ) where
@@ -91,9 +91,6 @@ steps-each (a ∷ t ∷ cs) tb st n s k l = go k (choiceReply tb st a t) refl l 
 -- ---- of an accepted table, from a state that fits it
 
 module _ (tb : List ℕ) (table : Table tb) where
-  low : {b : ℕ} → b < agents tb → b < 16
-  low h = omega (arith, few tb (table .good))
-
   -- the last state that an agent has come to is the one that it is left in
   pub steps-last : (cs st : List ℕ) (n : ℕ) → Fitting tb st → (b : ℕ) → b < agents tb
       → agentAt (runFrom tb st n cs .state) b ≡ lastOf (agentAt st b) (comesTo b (stepsFrom tb st cs))
@@ -112,7 +109,7 @@ module _ (tb : List ℕ) (table : Table tb) where
       own : choiceReply tb st a t ≡ 0 → Dec (a ≡ b) → lastOf (agentAt new b) rest ≡ lastOf (agentAt st b) (cond (eqb a b) (agentAt new a ∷ rest) rest)
       own e (yes p) = rw (eq-eqb a b p) (ap (λ (c : ℕ). lastOf (agentAt new c) rest) (sym p))
       own e (no m) = rw (ne-eqb a b m)
-          (ap (λ (s : Agent). lastOf s rest) (accepted-agent-other tb st a t (fit .long) (low (allowed tb st a t e .agent)) b (low h) (λ p. m (sym p))))
+          (ap (λ (s : Agent). lastOf s rest) (accepted-agent-other tb st a t (fit .long) (low tb st (table .good) (allowed tb st a t e .agent)) b (low tb st (table .good) h) (λ p. m (sym p))))
 
       go : (r : ℕ) → choiceReply tb st a t ≡ r → (choiceReply tb st a t ≡ 0 → agentAt (runFrom tb new (n + 1) cs .state) b ≡ lastOf (agentAt new b) rest)
           → agentAt (runFrom tb st n (a ∷ t ∷ cs) .state) b ≡ lastOf (agentAt st b) (comesTo b (stepsFrom tb st (a ∷ t ∷ cs)))

@@ -77,8 +77,8 @@ small-sets (v ∷ vs) l i s t = small-sets vs (set l i v) (suc i) (small-set l i
 
 -- ---- a row's effect
 
-cut : (n : ℕ) → Word (n % 2 ^ 32)
-cut n = omega arith
+remainder-small : (n : ℕ) → Word (n % 2 ^ 32)
+remainder-small n = omega arith
 
 ones-most : (n y : ℕ) → onesIn n y ≤ n
 unfolding onesIn
@@ -114,7 +114,7 @@ module _ (r : Row) (s : Agent) (k : Word (r .k)) (regs : Small (s .regs)) where
 
   pub after-small : (m : Best) → Carries m → Fine (after r m s)
   unfolding after
-  after-small m c = search (either, puts, receives, k, c, cut, ones-small, low-small) depth 14
+  after-small m c = search (either, puts, receives, k, c, remainder-small, ones-small, low-small) depth 14
 
 -- ---- a step
 

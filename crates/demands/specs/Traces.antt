@@ -18,7 +18,8 @@ use Rattle.traces.specs.Calls.{TraceOutcome, longestOutput, traceInto}
 use Rattle.demands.specs.Steps.{Step, step, comesTo, stepsInRun, lastOf}
 use Rattle.pharos.specs.Prefix.{OneBegins}
 
--- ---- what an output shows: the parse that tools/compare makes
+-- ---- what an output shows: the parse that tools/compare makes. It refuses a line that is neither `03` nor the `FE` at the end; here such a line is passed over, since no
+-- trace has one (`IsRun` below gives every byte), and so that whatever bytes there are show something.
 
 -- a line of `03`, agent, position (1 byte each), time, four registers (4 bytes each): 46 digits
 unfoldable pub isStepLine : List ℕ → Bool
