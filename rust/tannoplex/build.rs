@@ -1,32 +1,61 @@
-//! Links the archive of the proved library, which `rt staticlib board` writes. It is for x86-64: for
-//! another target it is linked into a program of its own, `bridge.c`, which `src/emulated.rs` runs.
+//! Links the archive of the proved library, as the sources stand: `tools/proved archive` checks them
+//! and builds it where they have changed. Where TANNOPLEX_ARCHIVE names a folder, the archive there is
+//! linked as it is, under its name in the repository or as installed, and nothing is checked.
+//!
+//! The archive is for x86-64: for another target it is linked into a program of its own, `bridge.c`,
+//! which `src/emulated.rs` runs.
 
-use std::path::Path;
+use std::path::{Path, PathBuf};
 use std::process::Command;
 
+const FOLDER: &str = "TANNOPLEX_ARCHIVE";
+/// The archive's names without `lib` and `.a`: the toolchain's, and that of `tools/install`.
+const NAMES: [&str; 2] = ["board", "tannoplex"];
+
 fn main() {
-    let root = Path::new(env!("CARGO_MANIFEST_DIR")).join("../..");
-    let folder = root.join("target/staticlib");
-    let archive = folder.join("libboard.a");
-    println!("cargo:rerun-if-changed={}", archive.display());
-    let Ok(folder) = folder.canonicalize().and_then(|folder| {
-        archive.metadata()?;
-        Ok(folder)
-    }) else {
-        eprintln!(
-            "target/staticlib/libboard.a is missing. It is the archive of the proved library: \
-             run `rt staticlib board` at the root of the repository."
-        );
+    if let Err(why) = linked() {
+        eprintln!("{why}");
         std::process::exit(1);
-    };
-    if std::env::var("CARGO_CFG_TARGET_ARCH").as_deref() != Ok("x86_64") {
-        return build_bridge(&root, &archive);
     }
-    println!("cargo:rustc-link-search=native={}", folder.display());
-    println!("cargo:rustc-link-lib=static=board");
 }
 
-fn build_bridge(root: &Path, archive: &Path) {
+fn linked() -> Result<(), String> {
+    let root = Path::new(env!("CARGO_MANIFEST_DIR")).join("../..");
+    println!("cargo:rerun-if-env-changed={FOLDER}");
+    let folder = match std::env::var_os(FOLDER) {
+        Some(folder) => PathBuf::from(folder),
+        None => proved(&root)?,
+    };
+    let folder = folder.canonicalize().map_err(|error| format!("{}: {error}", folder.display()))?;
+    let archive = |name: &&str| folder.join(format!("lib{name}.a"));
+    let Some(name) = NAMES.iter().find(|name| archive(name).exists()) else {
+        return Err(format!("{} has no libboard.a and no libtannoplex.a", folder.display()));
+    };
+    println!("cargo:rerun-if-changed={}", archive(name).display());
+    if std::env::var("CARGO_CFG_TARGET_ARCH").as_deref() != Ok("x86_64") {
+        return build_bridge(&root, &archive(name));
+    }
+    println!("cargo:rustc-link-search=native={}", folder.display());
+    println!("cargo:rustc-link-lib=static={name}");
+    Ok(())
+}
+
+/// The folder of the archive that the sources in the repository give.
+fn proved(root: &Path) -> Result<PathBuf, String> {
+    let tool = root.join("tools/proved");
+    for source in [&tool, &root.join("crates.txt"), &root.join("crates")] {
+        println!("cargo:rerun-if-changed={}", source.display());
+    }
+    match Command::new(&tool).arg("archive").status() {
+        Ok(status) if status.success() => Ok(root.join("target/staticlib")),
+        _ => Err(format!(
+            "tools/proved archive failed: the archive of the proved library cannot be built. \
+             Set {FOLDER} to a folder that has one to link that as it is."
+        )),
+    }
+}
+
+fn build_bridge(root: &Path, archive: &Path) -> Result<(), String> {
     let source = Path::new(env!("CARGO_MANIFEST_DIR")).join("bridge.c");
     let (tool, include) = (root.join("tools/x86"), root.join("include"));
     for file in [&source, &tool, &include] {
@@ -37,8 +66,8 @@ fn build_bridge(root: &Path, archive: &Path) {
         .args(["cc", "-std=c99", "-O2", "-Wall", "-Wextra", "-Werror", "-I"])
         .args([&include, Path::new("-o"), &bridge, &source, archive])
         .status();
-    if !built.is_ok_and(|status| status.success()) {
-        eprintln!("rust/tannoplex/bridge.c cannot be built by tools/x86 cc");
-        std::process::exit(1);
+    match built {
+        Ok(status) if status.success() => Ok(()),
+        _ => Err("rust/tannoplex/bridge.c cannot be built by tools/x86 cc".to_string()),
     }
 }

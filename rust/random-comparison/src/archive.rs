@@ -31,13 +31,12 @@ fn runner() -> Result<Vec<String>, String> {
 
 impl Archive {
     pub fn new() -> Result<Archive, String> {
-        let trace = Path::new(env!("CARGO_MANIFEST_DIR")).join("../../target/bin/trace");
-        if !trace.exists() {
-            return Err("target/bin/trace is missing. It is the proved trace program: run \
-                        `rt check trace` at the root of the repository."
-                .to_string());
+        let root = Path::new(env!("CARGO_MANIFEST_DIR")).join("../..");
+        match Command::new(root.join("tools/proved")).arg("trace").status() {
+            Ok(status) if status.success() => {}
+            _ => return Err("tools/proved trace failed: there is no proved program".to_string()),
         }
-        Ok(Archive { runner: runner()?, trace })
+        Ok(Archive { runner: runner()?, trace: root.join("target/bin/trace") })
     }
 }
 

@@ -40,7 +40,7 @@ fn main() -> ExitCode {
     match compared() {
         Ok(()) => ExitCode::SUCCESS,
         Err(why) => {
-            eprintln!("compare: {why}");
+            eprintln!("random-comparison: {why}");
             ExitCode::FAILURE
         }
     }
