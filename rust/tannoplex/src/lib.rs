@@ -35,7 +35,8 @@ mod archive;
 mod emulated;
 mod reply;
 
-pub use reply::Reply;
+pub use replies::Reply;
+use reply::Given;
 
 /// Words of a table.
 pub const TABLE_WORDS: usize = 2129;

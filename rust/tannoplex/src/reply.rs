@@ -1,137 +1,18 @@
-//! The replies.
+//! From the archive's numbers to the replies.
 
-use std::fmt;
+use replies::Reply;
 
-/// What a call answers. Every case but [`Reply::Accepted`] is a refusal.
-#[derive(Clone, Copy, Debug, PartialEq, Eq, PartialOrd, Ord, Hash)]
-#[repr(u32)]
-#[must_use]
-pub enum Reply {
-    /// 0: accepted.
-    Accepted = 0,
-    /// 1: table or state buffer too short.
-    BufferTooShort = 1,
-    /// 2: a line is malformed.
-    MalformedLine = 2,
-    /// 3: a line out of its place, or too many agents or rows.
-    LineOutOfPlace = 3,
-    /// 4: unknown op, register above 3, n above 31, or an unused field not 0.
-    BadField = 4,
-    /// 5: a target above the row count.
-    BadTarget = 5,
-    /// 6: early not below late, or late above 1,000,000.
-    BadWindow = 6,
-    /// 7: early or late below that of the row before.
-    WindowGoesBack = 7,
-    /// 8: the table words break a rule.
-    BadTable = 8,
-    /// 9: the state words do not fit the table.
-    BadState = 9,
-    /// 10: no such agent.
-    NoSuchAgent = 10,
-    /// 11: the agent has ended.
-    AgentEnded = 11,
-    /// 12: time below the clock.
-    TimeBelowClock = 12,
-    /// 13: time below the row's early.
-    TimeBelowEarly = 13,
-    /// 14: no agent and time at all would be accepted, though some agent is unfinished.
-    Stuck = 14,
-    /// 15: time above some unfinished agent's late.
-    TimeAboveLate = 15,
-    /// 16: the list of choices has an odd number of words.
-    OddChoices = 16,
-    /// 17: the input of a trace is above 65,536 bytes.
-    InputTooLong = 17,
+/// A trait, since [`Reply`] is another crate's, which knows nothing of the archive.
+pub(crate) trait Given {
+    /// The reply of a number that the archive gave.
+    fn of(number: u32) -> Reply;
 }
 
-impl Reply {
-    /// All replies, by number.
-    pub const ALL: [Reply; 18] = [
-        Reply::Accepted,
-        Reply::BufferTooShort,
-        Reply::MalformedLine,
-        Reply::LineOutOfPlace,
-        Reply::BadField,
-        Reply::BadTarget,
-        Reply::BadWindow,
-        Reply::WindowGoesBack,
-        Reply::BadTable,
-        Reply::BadState,
-        Reply::NoSuchAgent,
-        Reply::AgentEnded,
-        Reply::TimeBelowClock,
-        Reply::TimeBelowEarly,
-        Reply::Stuck,
-        Reply::TimeAboveLate,
-        Reply::OddChoices,
-        Reply::InputTooLong,
-    ];
-
-    /// The reply's number.
-    #[must_use]
-    pub fn number(self) -> u32 {
-        self as u32
-    }
-
-    /// Whether this is [`Reply::Accepted`].
-    #[must_use]
-    pub fn is_accepted(self) -> bool {
-        self == Reply::Accepted
-    }
-
-    /// The reply of a number that the archive gave.
-    pub(crate) fn of(number: u32) -> Reply {
+impl Given for Reply {
+    fn of(number: u32) -> Reply {
         match Reply::try_from(number) {
             Ok(reply) => reply,
             Err(_) => panic!("libboard.a gave reply {number}, which this crate does not know"),
         }
-    }
-}
-
-impl TryFrom<u32> for Reply {
-    type Error = u32;
-
-    /// The reply with this number, or the number itself where there is none.
-    fn try_from(number: u32) -> Result<Reply, u32> {
-        Reply::ALL.get(number as usize).copied().ok_or(number)
-    }
-}
-
-impl fmt::Display for Reply {
-    fn fmt(&self, f: &mut fmt::Formatter<'_>) -> fmt::Result {
-        f.write_str(match self {
-            Reply::Accepted => "accepted",
-            Reply::BufferTooShort => "table or state buffer too short",
-            Reply::MalformedLine => "a line is malformed",
-            Reply::LineOutOfPlace => "a line out of its place, or too many agents or rows",
-            Reply::BadField => "unknown op, register above 3, n above 31, or an unused field not 0",
-            Reply::BadTarget => "a target above the row count",
-            Reply::BadWindow => "early not below late, or late above 1,000,000",
-            Reply::WindowGoesBack => "early or late below that of the row before",
-            Reply::BadTable => "the table words break a rule",
-            Reply::BadState => "the state words do not fit the table",
-            Reply::NoSuchAgent => "no such agent",
-            Reply::AgentEnded => "the agent has ended",
-            Reply::TimeBelowClock => "time below the clock",
-            Reply::TimeBelowEarly => "time below the row's early",
-            Reply::Stuck => "stuck: no agent and time at all would be accepted",
-            Reply::TimeAboveLate => "time above some unfinished agent's late",
-            Reply::OddChoices => "the list of choices has an odd number of words",
-            Reply::InputTooLong => "the trace program's input is above 65,536 bytes",
-        })
-    }
-}
-
-#[cfg(test)]
-mod tests {
-    use super::*;
-
-    #[test]
-    fn each_number_has_its_reply() {
-        for (number, reply) in (0..).zip(Reply::ALL) {
-            assert_eq!((reply.number(), Reply::try_from(number)), (number, Ok(reply)));
-        }
-        assert_eq!(Reply::try_from(18), Err(18));
     }
 }
