@@ -30,6 +30,9 @@
 
 #![warn(missing_docs)]
 
+pub mod ops;
+pub mod places;
+
 mod archive;
 #[cfg(not(target_arch = "x86_64"))]
 mod emulated;
@@ -47,6 +50,10 @@ pub const AGENTS: usize = 16;
 pub const ROWS: usize = 32;
 /// Registers of an agent.
 pub const REGISTERS: usize = 4;
+/// The last time that a window may reach.
+pub const LAST_TIME: u32 = 1_000_000;
+/// Bytes of the longest input of a [`trace`].
+pub const TRACE_INPUT_BYTES: usize = 65_536;
 /// Bytes of the longest output of a [`trace`].
 pub const TRACE_OUTPUT_BYTES: usize = 24_073;
 
@@ -156,19 +163,17 @@ pub fn trace(input: &[u8], out: &mut [u8]) -> Traced {
 /// is too short or the agent or register does not exist.
 #[must_use]
 pub fn clock(state: &[u32]) -> u32 {
-    state[0]
+    state[places::STATE_CLOCK]
 }
 
 /// The position of an agent; equal to its row count once it has ended.
 #[must_use]
 pub fn position(state: &[u32], agent: usize) -> u32 {
-    assert!(agent < AGENTS, "no agent {agent}");
-    state[1 + agent]
+    state[places::state_position(agent)]
 }
 
 /// A register of an agent.
 #[must_use]
 pub fn register(state: &[u32], agent: usize, register: usize) -> u32 {
-    assert!(agent < AGENTS && register < REGISTERS, "no register {register} of agent {agent}");
-    state[1 + AGENTS + REGISTERS * agent + register]
+    state[places::state_register(agent, register)]
 }

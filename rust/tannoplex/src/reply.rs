@@ -102,7 +102,7 @@ impl fmt::Display for Reply {
     fn fmt(&self, f: &mut fmt::Formatter<'_>) -> fmt::Result {
         f.write_str(match self {
             Reply::Accepted => "accepted",
-            Reply::BufferTooShort => "table or state buffer too short",
+            Reply::BufferTooShort => "table, state or output buffer too short",
             Reply::MalformedLine => "a line is malformed",
             Reply::LineOutOfPlace => "a line out of its place, or too many agents or rows",
             Reply::BadField => "unknown op, register above 3, n above 31, or an unused field not 0",
