@@ -11,6 +11,9 @@
  * memcpy and memset from the C library, and nothing else. Stack, read off the compiled code and
  * covered by no proof: tannoplex_trace under 24 KiB, tannoplex_read under 9 KiB, the others under 2.
  *
+ * Installed (`tools/install PREFIX`) the archive is libtannoplex.a, and pkg-config knows it as
+ * tannoplex. The replies in words are a C file of their own, tannoplex_replies.c.
+ *
  * Buffers
  *   The caller lends every buffer for the time of the call, with its length: in bytes for text, in
  *   words of 32 bits for the others. Nothing is allocated and nothing is kept between calls: a call
@@ -68,17 +71,25 @@
 extern "C" {
 #endif
 
+/* The version: the numbers for #if, and the text of them. CHANGELOG.md says what each brought. */
+#define TANNOPLEX_VERSION_MAJOR 0
+#define TANNOPLEX_VERSION_MINOR 2
+#define TANNOPLEX_VERSION_PATCH 0
+#define TANNOPLEX_VERSION "0.2.0"
+
 /* Sizes. */
 #define TANNOPLEX_TABLE_WORDS 2129
 #define TANNOPLEX_STATE_WORDS 1105
 #define TANNOPLEX_AGENTS 16
 #define TANNOPLEX_ROWS 32
 #define TANNOPLEX_REGISTERS 4
+#define TANNOPLEX_ROW_WORDS 4
 #define TANNOPLEX_LAST_TIME 1000000
 #define TANNOPLEX_TRACE_INPUT_BYTES 65536  /* the longest input of a trace */
 #define TANNOPLEX_TRACE_OUTPUT_BYTES 24073 /* the longest output: 512 lines of 47 bytes, one of 9 */
 
 /* Where the parts of a table and of a state begin. */
+#define TANNOPLEX_TABLE_AGENTS 0
 #define TANNOPLEX_TABLE_ROW_COUNTS 1
 #define TANNOPLEX_TABLE_REGISTERS 17
 #define TANNOPLEX_TABLE_ROWS 81
@@ -88,7 +99,64 @@ extern "C" {
 #define TANNOPLEX_STATE_MARKS 81
 #define TANNOPLEX_STATE_VALUES 593
 
-/* Replies. */
+/* The words of a row, counted from its first. */
+#define TANNOPLEX_ROW_CODE 0
+#define TANNOPLEX_ROW_K 1
+#define TANNOPLEX_ROW_EARLY 2
+#define TANNOPLEX_ROW_LATE 3
+
+/* Casts for the macros below, each in the language's own form, so that no compiler warns of them. */
+#ifdef __cplusplus
+#define TANNOPLEX_AS_PLACE(number) (static_cast<size_t>(number))
+#define TANNOPLEX_AS_WORD(number) (static_cast<uint32_t>(number))
+#else
+#define TANNOPLEX_AS_PLACE(number) ((size_t)(number))
+#define TANNOPLEX_AS_WORD(number) ((uint32_t)(number))
+#endif
+
+/*
+ * The place of one word, a size_t: table[TANNOPLEX_TABLE_ROW(a, i) + TANNOPLEX_ROW_EARLY] is the
+ * early of row i of agent a. Nothing is checked: an agent is below TANNOPLEX_AGENTS, a row below
+ * TANNOPLEX_ROWS and a register below TANNOPLEX_REGISTERS, else the place is another's or none (the
+ * place of agent 16's position is that of a register of agent 0).
+ */
+#define TANNOPLEX_TABLE_ROW_COUNT(agent) (TANNOPLEX_TABLE_ROW_COUNTS + TANNOPLEX_AS_PLACE(agent))
+#define TANNOPLEX_TABLE_REGISTER(agent, reg)                                                       \
+    (TANNOPLEX_TABLE_REGISTERS + TANNOPLEX_REGISTERS * TANNOPLEX_AS_PLACE(agent) +                 \
+     TANNOPLEX_AS_PLACE(reg))
+#define TANNOPLEX_TABLE_ROW(agent, row)                                                            \
+    (TANNOPLEX_TABLE_ROWS + TANNOPLEX_ROW_WORDS * (TANNOPLEX_ROWS * TANNOPLEX_AS_PLACE(agent) +    \
+                                                   TANNOPLEX_AS_PLACE(row)))
+#define TANNOPLEX_STATE_POSITION(agent) (TANNOPLEX_STATE_POSITIONS + TANNOPLEX_AS_PLACE(agent))
+#define TANNOPLEX_STATE_REGISTER(agent, reg)                                                       \
+    (TANNOPLEX_STATE_REGISTERS + TANNOPLEX_REGISTERS * TANNOPLEX_AS_PLACE(agent) +                 \
+     TANNOPLEX_AS_PLACE(reg))
+#define TANNOPLEX_STATE_MARK(agent, row)                                                           \
+    (TANNOPLEX_STATE_MARKS + TANNOPLEX_ROWS * TANNOPLEX_AS_PLACE(agent) + TANNOPLEX_AS_PLACE(row))
+#define TANNOPLEX_STATE_VALUE(agent, row)                                                          \
+    (TANNOPLEX_STATE_VALUES + TANNOPLEX_ROWS * TANNOPLEX_AS_PLACE(agent) + TANNOPLEX_AS_PLACE(row))
+
+/* Ops. */
+#define TANNOPLEX_SET 0x00
+#define TANNOPLEX_ADD 0x01
+#define TANNOPLEX_SUB 0x02
+#define TANNOPLEX_ONES 0x03
+#define TANNOPLEX_LOW 0x04
+#define TANNOPLEX_SKIP 0x10
+#define TANNOPLEX_JUMP 0x11
+#define TANNOPLEX_SEND 0x20
+#define TANNOPLEX_RECV 0x30
+
+/* A row's first word from its four fields, each below 256, and each field from that word. */
+#define TANNOPLEX_CODE(op, x, y, n)                                                                \
+    (TANNOPLEX_AS_WORD(op) << 24 | TANNOPLEX_AS_WORD(x) << 16 | TANNOPLEX_AS_WORD(y) << 8 |        \
+     TANNOPLEX_AS_WORD(n))
+#define TANNOPLEX_CODE_OP(code) (TANNOPLEX_AS_WORD(code) >> 24)
+#define TANNOPLEX_CODE_X(code) (TANNOPLEX_AS_WORD(code) >> 16 & 0xFF)
+#define TANNOPLEX_CODE_Y(code) (TANNOPLEX_AS_WORD(code) >> 8 & 0xFF)
+#define TANNOPLEX_CODE_N(code) (TANNOPLEX_AS_WORD(code) & 0xFF)
+
+/* Replies. The words are those of tannoplex_replies.c; what is in parentheses is said here alone. */
 #define TANNOPLEX_ACCEPTED 0          /* accepted */
 #define TANNOPLEX_BUFFER_TOO_SHORT 1  /* table, state or output buffer too short */
 #define TANNOPLEX_MALFORMED_LINE 2    /* a line is malformed */
@@ -104,11 +172,11 @@ extern "C" {
 #define TANNOPLEX_AGENT_ENDED 11      /* the agent has ended */
 #define TANNOPLEX_TIME_BELOW_CLOCK 12 /* time below the clock */
 #define TANNOPLEX_TIME_BELOW_EARLY 13 /* time below the row's early */
-#define TANNOPLEX_STUCK 14            /* no agent and time at all would be accepted, though some
-                                         agent is unfinished; cannot be met */
+#define TANNOPLEX_STUCK 14            /* stuck: no agent and time at all would be accepted (though
+                                         some agent is unfinished; proved never to be met) */
 #define TANNOPLEX_TIME_ABOVE_LATE 15  /* time above some unfinished agent's late */
 #define TANNOPLEX_ODD_CHOICES 16      /* the list of choices has an odd number of words */
-#define TANNOPLEX_INPUT_TOO_LONG 17   /* a trace's input is above 65,536 bytes */
+#define TANNOPLEX_INPUT_TOO_LONG 17   /* the trace program's input is above 65,536 bytes */
 
 /* What tannoplex_read answers: a reply, and the line it is about, counted from 1; 0 with
    TANNOPLEX_ACCEPTED and TANNOPLEX_BUFFER_TOO_SHORT. */

@@ -43,7 +43,16 @@ int main(void)
     tannoplex_told told = tannoplex_read(text, sizeof text - 2, table, words);
     expect(told.reply == TANNOPLEX_MALFORMED_LINE && told.line == 5, "read, no last newline");
     told = tannoplex_read(text, sizeof text - 1, table, words);
-    expect(told.reply == TANNOPLEX_ACCEPTED && told.line == 0 && table[0] == 2, "read");
+    expect(told.reply == TANNOPLEX_ACCEPTED && told.line == 0 &&
+               table[TANNOPLEX_TABLE_AGENTS] == 2,
+           "read");
+    expect(table[TANNOPLEX_TABLE_ROW_COUNT(1)] == 1 && table[TANNOPLEX_TABLE_REGISTER(0, 0)] == 5,
+           "the places of an agent in the table");
+    const uint32_t *row = table + TANNOPLEX_TABLE_ROW(1, 0);
+    expect(row[TANNOPLEX_ROW_CODE] == TANNOPLEX_CODE(TANNOPLEX_RECV, 1, 0, 0) &&
+               row[TANNOPLEX_ROW_K] == 7 && row[TANNOPLEX_ROW_EARLY] == 4 &&
+               row[TANNOPLEX_ROW_LATE] == 8,
+           "the places of a row in the table");
 
     expect(tannoplex_check(table, words - 1) == TANNOPLEX_BUFFER_TOO_SHORT, "check, too short");
     expect(tannoplex_check(table, words) == TANNOPLEX_ACCEPTED, "check");
@@ -51,7 +60,8 @@ int main(void)
     expect(tannoplex_start(table, words, stepped, state_words - 1) == TANNOPLEX_BUFFER_TOO_SHORT,
            "start, too short");
     expect(tannoplex_start(table, words, stepped, state_words) == TANNOPLEX_ACCEPTED &&
-               stepped[TANNOPLEX_STATE_CLOCK] == 1 && stepped[TANNOPLEX_STATE_REGISTERS] == 5,
+               stepped[TANNOPLEX_STATE_CLOCK] == 1 &&
+               stepped[TANNOPLEX_STATE_REGISTER(0, 0)] == 5,
            "start");
 
     expect(tannoplex_step(table, words, stepped, state_words, 1, 4) == TANNOPLEX_TIME_ABOVE_LATE,
@@ -61,7 +71,10 @@ int main(void)
                    TANNOPLEX_ACCEPTED,
                "step");
     }
-    expect(stepped[TANNOPLEX_STATE_REGISTERS + TANNOPLEX_REGISTERS + 1] == 5, "what was received");
+    expect(stepped[TANNOPLEX_STATE_POSITION(1)] == 1 && stepped[TANNOPLEX_STATE_REGISTER(1, 1)] == 5,
+           "what was received");
+    expect(stepped[TANNOPLEX_STATE_MARK(0, 0)] == 1 && stepped[TANNOPLEX_STATE_VALUE(0, 0)] == 5,
+           "what was sent");
 
     tannoplex_ran ran = tannoplex_run(table, words, state, state_words, choices, 6);
     expect(ran.reply == TANNOPLEX_AGENT_ENDED && ran.count == 2, "run, one choice too many");

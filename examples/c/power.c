@@ -5,14 +5,19 @@
  *
  * TABLE is the text of a table as in examples/shop, whose last agent is the power agent: its
  * register 0 holds the port that it granted, 0 for none. CHOICES is lines of `02`, agent, time.
+ *
+ * 0 where all is accepted. 1 where the table or a choice is refused, with the file, the line or the
+ * choice in it, and the reply in words. 2 where there are not two files, one cannot be read or is
+ * above 65,536 bytes, or a line of CHOICES is no choice: then nothing was run.
  */
 #include <stdio.h>
 #include <stdlib.h>
 #include <string.h>
 
 #include "tannoplex.h"
+#include "tannoplex_replies.h"
 
-#define TEXT_BYTES 65536
+#define TEXT_BYTES TANNOPLEX_TRACE_INPUT_BYTES
 #define CHOICE_DIGITS 12
 #define CHOICE_BYTES (CHOICE_DIGITS + 1)
 
@@ -84,7 +89,8 @@ int main(int argc, char **argv)
     size_t length = read_file(argv[1]);
     tannoplex_told told = tannoplex_read(text, length, table, TANNOPLEX_TABLE_WORDS);
     if (told.reply != TANNOPLEX_ACCEPTED) {
-        fprintf(stderr, "%s: line %u is refused with %u\n", argv[1], told.line, told.reply);
+        fprintf(stderr, "%s: line %u is refused with %u: %s\n", argv[1], told.line, told.reply,
+                tannoplex_reply_text(told.reply));
         return 1;
     }
 
@@ -93,12 +99,13 @@ int main(int argc, char **argv)
                                       choices, words);
     printf("%u steps accepted\n", ran.count);
     if (ran.reply != TANNOPLEX_ACCEPTED) {
-        fprintf(stderr, "%s: choice %u is refused with %u\n", argv[2], ran.count + 1, ran.reply);
+        fprintf(stderr, "%s: choice %u is refused with %u: %s\n", argv[2], ran.count + 1, ran.reply,
+                tannoplex_reply_text(ran.reply));
         return 1;
     }
 
-    uint32_t power = table[0] - 1;
-    uint32_t port = state[TANNOPLEX_STATE_REGISTERS + TANNOPLEX_REGISTERS * power];
+    uint32_t power = table[TANNOPLEX_TABLE_AGENTS] - 1;
+    uint32_t port = state[TANNOPLEX_STATE_REGISTER(power, 0)];
     if (port == 0) {
         printf("no socket has power\n");
     } else {

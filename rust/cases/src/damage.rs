@@ -1,7 +1,8 @@
 //! Damage to rows, to the words of tables and to the words of states.
 
-use reference::{Row, State, Table, AGENTS, ROWS, STATE_WORDS, TABLE_WORDS};
+use reference::{Row, State, Table, AGENTS, LAST_TIME, ROWS, STATE_WORDS, TABLE_WORDS};
 
+use crate::layout;
 use crate::rng::Rng;
 
 /// A field of a row becomes wrong, at an edge, or only different.
@@ -22,7 +23,7 @@ pub fn damage_row(rng: &mut Rng, row: &mut Row, before: Row) {
         }
         11 => row.early = row.late,
         12 => row.late = row.early,
-        13 => row.late = rng.pick(&[1_000_000, 1_000_001, 1 << 31, u32::MAX]),
+        13 => row.late = rng.pick(&[LAST_TIME, LAST_TIME + 1, 1 << 31, u32::MAX]),
         14 => row.early = rng.word(),
         15 => row.early = before.early.saturating_sub(1),
         16 => (row.early, row.late) = (0, before.late.saturating_sub(1)),
@@ -39,25 +40,31 @@ pub fn damage_table(rng: &mut Rng, table: &Table, words: &mut [u32]) {
     match rng.below(12) {
         0 => {
             let agents = agents as u32;
-            words[0] = rng.pick(&[0, 17, agents - 1, agents + 1, agents + (1 << 16), u32::MAX]);
+            words[layout::AGENT_COUNT] =
+                rng.pick(&[0, 17, agents - 1, agents + 1, agents + (1 << 16), u32::MAX]);
         }
         1 => {
             let count = count as u32;
-            words[1 + a] = rng.pick(&[0, 33, count - 1, count + 1, count + (1 << 8), u32::MAX]);
+            words[layout::row_count(a)] =
+                rng.pick(&[0, 33, count - 1, count + 1, count + (1 << 8), u32::MAX]);
         }
         2 if !unused_agent.is_empty() => {
             let agent = rng.within(agents, AGENTS - 1);
-            let at = rng.pick(&[1 + agent, 17 + 4 * agent, 17 + 4 * agent + 3]);
+            let at = rng.pick(&[
+                layout::row_count(agent),
+                layout::register(agent, 0),
+                layout::register(agent, 3),
+            ]);
             words[at] = rng.word_not_0();
         }
         3 if !unused_agent.is_empty() => {
-            let first = 81 + 4 * ROWS * agents;
+            let first = layout::row(agents, 0);
             let at = rng.within(first, TABLE_WORDS - 1);
             words[rng.pick(&[first, at, TABLE_WORDS - 1])] = rng.word_not_0();
         }
         4 if count < ROWS => {
-            let first = 81 + 4 * (ROWS * a + count);
-            let last = 81 + 4 * (ROWS * a + ROWS) - 1;
+            let first = layout::row(a, count);
+            let last = layout::row(a, ROWS) - 1;
             let at = rng.within(first, last);
             words[rng.pick(&[first, at, last])] = rng.word_not_0();
         }
@@ -72,47 +79,51 @@ pub fn damage_table(rng: &mut Rng, table: &Table, words: &mut [u32]) {
             let before = if i > 0 { rows[i - 1] } else { Row::default() };
             let mut row = rows[i];
             damage_row(rng, &mut row, before);
-            let at = 81 + 4 * (ROWS * a + i);
-            words[at] = u32::from_be_bytes([row.op, row.x, row.y, row.n]);
-            words[at + 1..at + 4].copy_from_slice(&[row.k, row.early, row.late]);
+            let code = u32::from_be_bytes([row.op, row.x, row.y, row.n]);
+            words[layout::row(a, i)..][..layout::ROW_WORDS]
+                .copy_from_slice(&[code, row.k, row.early, row.late]);
         }
     }
 }
 
 /// Damage to the words of this state of this table.
 pub fn damage_state(rng: &mut Rng, table: &Table, state: &State, words: &mut [u32]) {
-    const MARKS: usize = 81;
-    const VALUES: usize = 81 + AGENTS * ROWS;
     let agents = table.agents.len();
     let a = rng.below(agents);
     let count = table.agents[a].rows.len();
     let position = state.agents[a].position;
-    let place = ROWS * a + rng.below(ROWS);
+    let i = rng.below(ROWS);
     match rng.below(14) {
-        0 => words[0] = rng.pick(&[0, 1_000_000, 1_000_001, u32::MAX]),
-        1 | 2 => words[0] = state.deadline(table).unwrap_or(1_000_000) + 1,
-        3 => words[1 + a] = rng.pick(&[count as u32 + 1, 33, 1 << 16, u32::MAX]),
-        4 => words[1 + a] = rng.below(count + 1) as u32,
+        0 => words[layout::CLOCK] = rng.pick(&[0, LAST_TIME, LAST_TIME + 1, u32::MAX]),
+        1 | 2 => words[layout::CLOCK] = state.deadline(table).unwrap_or(LAST_TIME) + 1,
+        3 => words[layout::position(a)] = rng.pick(&[count as u32 + 1, 33, 1 << 16, u32::MAX]),
+        4 => words[layout::position(a)] = rng.below(count + 1) as u32,
         5 if agents < AGENTS => {
             let agent = rng.within(agents, AGENTS - 1);
-            words[rng.pick(&[1 + agent, 17 + 4 * agent, 20 + 4 * agent])] = rng.word_not_0();
+            let at = rng.pick(&[
+                layout::position(agent),
+                layout::register(agent, 0),
+                layout::register(agent, 3),
+            ]);
+            words[at] = rng.word_not_0();
         }
         6 if agents < AGENTS => {
             let place = rng.within(ROWS * agents, ROWS * AGENTS - 1);
-            words[rng.pick(&[MARKS, VALUES]) + place] = rng.word_not_0();
+            let (agent, i) = (place / ROWS, place % ROWS);
+            words[rng.pick(&[layout::mark(agent, i), layout::value(agent, i)])] = rng.word_not_0();
         }
-        7 => words[MARKS + place] = rng.pick(&[1, 2, u32::MAX]),
-        8 => words[VALUES + place] = rng.word_not_0(),
-        9 => words[MARKS + place] ^= 1,
+        7 => words[layout::mark(a, i)] = rng.pick(&[1, 2, u32::MAX]),
+        8 => words[layout::value(a, i)] = rng.word_not_0(),
+        9 => words[layout::mark(a, i)] ^= 1,
         10 if position < count => {
             // The row not yet run, or one after it, marked.
-            words[MARKS + ROWS * a + rng.within(position, count - 1)] = 1;
+            words[layout::mark(a, rng.within(position, count - 1))] = 1;
         }
         11 => {
             let at = rng.below(STATE_WORDS);
             words[at] ^= 1 << rng.below(32);
         }
         12 => words[rng.below(STATE_WORDS)] = rng.word(),
-        _ => words[MARKS + place] = 2,
+        _ => words[layout::mark(a, i)] = 2,
     }
 }

@@ -6,6 +6,7 @@ pub mod board;
 pub mod choices;
 pub mod counts;
 pub mod damage;
+pub mod layout;
 pub mod lent;
 pub mod rng;
 pub mod suite;

@@ -8,6 +8,7 @@ use crate::board::Board;
 use crate::choices::{accepted, any, schedule, words, Choice, Order};
 use crate::counts::{Call, Counts};
 use crate::damage::{damage_state, damage_table};
+use crate::layout;
 use crate::lent::Lent;
 use crate::rng::Rng;
 use crate::tables::{fitting_state, table, Size};
@@ -304,10 +305,10 @@ fn passed_through(
     let mut state = vec![0; STATE_WORDS];
     same("reply of start", &0, &board.start(table, &mut state))?;
     let agent_state = |state: &[u32], a: usize| {
-        let registers = &state[17 + 4 * a..][..4];
-        [state[1 + a], registers[0], registers[1], registers[2], registers[3]]
+        let register = |r| state[layout::register(a, r)];
+        [state[layout::position(a)], register(0), register(1), register(2), register(3)]
     };
-    let agents = table[0] as usize;
+    let agents = table[layout::AGENT_COUNT] as usize;
     let mut passed: Vec<_> = (0..agents).map(|a| vec![agent_state(&state, a)]).collect();
     for &(agent, time) in choices {
         same("reply of a step", &0, &board.step(table, &mut state, agent, time))?;
@@ -341,12 +342,16 @@ fn pair_case(rng: &mut Rng, board: &dyn Board, counts: &mut Counts) -> Outcome {
     let mut third = schedule(rng, &table, Order::Random);
     third.truncate(rng.below(third.len() + 1));
 
+    let after_clock = layout::CLOCK + 1;
     let agents_of = |choices: &[Choice]| choices.iter().map(|c| c.0).collect::<Vec<_>>();
     let (states, record) = passed_through(board, &table_words, &one)?;
     let (other_states, other_record) = passed_through(board, &table_words, &other)?;
     let (third_states, _) = passed_through(board, &table_words, &third)?;
     let outcome = same("the agents' states", &states, &other_states)
-        .and_then(|()| same("the records but the clock", &record[1..], &other_record[1..]))
+        .and_then(|()| {
+            let (one, other) = (&record[after_clock..], &other_record[after_clock..]);
+            same("the records but the clock", one, other)
+        })
         .and_then(|()| prefixes(&states, &third_states));
     outcome.map_err(|what| {
         format!("{what}\nchoices: {one:?}\nand: {other:?}\ntable: {}", listed(&table_words))
@@ -373,7 +378,8 @@ fn pair_case(rng: &mut Rng, board: &dyn Board, counts: &mut Counts) -> Outcome {
 
 /// An input of the trace program of about the longest length: below, equal or above.
 fn pad(rng: &mut Rng, input: &mut Vec<u8>) {
-    let limit = 65_536 + rng.pick(&[1, 1, 2, 13, 5_000]) - usize::from(rng.percent(10));
+    let limit = reference::trace::INPUT_BYTES + rng.pick(&[1, 1, 2, 13, 5_000])
+        - usize::from(rng.percent(10));
     let lines = if rng.percent(80) { choice_lines(&[(0, 1)]) } else { b"\n".to_vec() };
     while input.len() < limit {
         input.extend(&lines);

@@ -2,7 +2,9 @@
 //! and boards with a fault each must not.
 
 use cases::suite::Kind;
-use cases::{compare, Board, Plan};
+use cases::{compare, layout, Board, Plan};
+use reference::trace::INPUT_BYTES;
+use reference::{LAST_TIME, TABLE_WORDS};
 
 struct Quick;
 
@@ -99,7 +101,7 @@ fn is_found(fault: &str, board: &Faulty, kind: Kind) {
 fn faults_of_the_reader_are_found() {
     let past = |text: &[u8], table: &mut [u32]| {
         let told = quick::read(text, table);
-        if let (0, Some(word)) = (told.0, table.get_mut(2129)) {
+        if let (0, Some(word)) = (told.0, table.get_mut(TABLE_WORDS)) {
             *word = word.wrapping_add(1);
         }
         told
@@ -108,7 +110,7 @@ fn faults_of_the_reader_are_found() {
     let before = |text: &[u8], table: &mut [u32]| {
         let told = quick::read(text, table);
         if told.0 == 7 {
-            table[0] ^= 1;
+            table[layout::AGENT_COUNT] ^= 1;
         }
         told
     };
@@ -126,7 +128,7 @@ fn faults_of_the_reader_are_found() {
 fn faults_of_the_check_are_found() {
     let unused = |table: &[u32]| {
         let mut table = table.to_vec();
-        if let Some(last) = table.get_mut(2128) {
+        if let Some(last) = table.get_mut(TABLE_WORDS - 1) {
             *last = if *last == 1 { 0 } else { *last };
         }
         quick::check(&table)
@@ -134,8 +136,11 @@ fn faults_of_the_check_are_found() {
     is_found("leaves an unused word", &Faulty { check: unused, ..GOOD }, Kind::Check);
     let million = |table: &[u32]| {
         let mut table = table.to_vec();
-        for late in table.iter_mut().skip(84).step_by(4).filter(|late| **late == 1_000_001) {
-            *late = 1_000_000;
+        let first = layout::row(0, 0) + layout::ROW_LATE;
+        for late in table.iter_mut().skip(first).step_by(layout::ROW_WORDS) {
+            if *late == LAST_TIME + 1 {
+                *late = LAST_TIME;
+            }
         }
         quick::check(&table)
     };
@@ -176,7 +181,7 @@ fn faults_of_the_run_are_found() {
     let order = |table: &[u32], state: &mut [u32], choices: &[u32]| {
         let ran = quick::run(table, state, choices);
         if ran.1 >= 20 && choices[..2] > choices[2..4] {
-            state[17] ^= 1;
+            state[layout::register(0, 0)] ^= 1;
         }
         ran
     };
@@ -185,10 +190,10 @@ fn faults_of_the_run_are_found() {
 
 #[test]
 fn faults_of_the_trace_are_found() {
-    let limit = |input: &[u8]| Quick.trace(&input[..input.len().min(65_536)]);
+    let limit = |input: &[u8]| Quick.trace(&input[..input.len().min(INPUT_BYTES)]);
     is_found("takes more than 65,536 bytes", &Faulty { trace: limit, ..GOOD }, Kind::Trace);
     let shorter = |input: &[u8]| match input.len() {
-        65_536 => b"FE110000\n".to_vec(),
+        INPUT_BYTES => b"FE110000\n".to_vec(),
         _ => Quick.trace(input),
     };
     is_found("17 at 65,536", &Faulty { trace: shorter, ..GOOD }, Kind::Trace);

@@ -4,6 +4,9 @@
 //! emulator from the first call on. A call sends it a memory with copies of the lent buffers among
 //! guard bytes, and gets it back as the archive left it: one buffer may have been written, and
 //! nothing else.
+//!
+//! They have the archive's names too, for the C tests that `emulated-archive` is linked with. A call
+//! that cannot be handed over ends the process: there is no reply for it.
 
 use std::io::{self, Read, Write};
 use std::process::{Child, ChildStdin, ChildStdout, Command, Stdio};
@@ -136,7 +139,8 @@ unsafe fn call(
     (reply as u32, more)
 }
 
-pub unsafe fn tannoplex_read(
+#[no_mangle]
+pub unsafe extern "C" fn tannoplex_read(
     text: *const u8,
     text_len: usize,
     table: *mut u32,
@@ -148,12 +152,14 @@ pub unsafe fn tannoplex_read(
     Told { reply, line: line as u32 }
 }
 
-pub unsafe fn tannoplex_check(table: *const u32, table_len: usize) -> u32 {
+#[no_mangle]
+pub unsafe extern "C" fn tannoplex_check(table: *const u32, table_len: usize) -> u32 {
     let table = Lent::words(table, table_len);
     unsafe { call(Function::Check, table, Lent::NONE, Lent::NONE, [0, 0]) }.0
 }
 
-pub unsafe fn tannoplex_start(
+#[no_mangle]
+pub unsafe extern "C" fn tannoplex_start(
     table: *const u32,
     table_len: usize,
     state: *mut u32,
@@ -163,7 +169,8 @@ pub unsafe fn tannoplex_start(
     unsafe { call(Function::Start, table, state, Lent::NONE, [0, 0]) }.0
 }
 
-pub unsafe fn tannoplex_step(
+#[no_mangle]
+pub unsafe extern "C" fn tannoplex_step(
     table: *const u32,
     table_len: usize,
     state: *mut u32,
@@ -175,7 +182,8 @@ pub unsafe fn tannoplex_step(
     unsafe { call(Function::Step, table, state, Lent::NONE, [agent, time]) }.0
 }
 
-pub unsafe fn tannoplex_run(
+#[no_mangle]
+pub unsafe extern "C" fn tannoplex_run(
     table: *const u32,
     table_len: usize,
     state: *mut u32,
@@ -189,7 +197,8 @@ pub unsafe fn tannoplex_run(
     Ran { reply, count: count as u32 }
 }
 
-pub unsafe fn tannoplex_trace(
+#[no_mangle]
+pub unsafe extern "C" fn tannoplex_trace(
     input: *const u8,
     input_len: usize,
     out: *mut u8,

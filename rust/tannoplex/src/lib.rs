@@ -30,13 +30,16 @@
 
 #![warn(missing_docs)]
 
+pub mod ops;
+pub mod places;
+
 mod archive;
 #[cfg(not(target_arch = "x86_64"))]
 mod emulated;
 mod reply;
 
 pub use replies::Reply;
-use reply::Given;
+use reply::given;
 
 /// Words of a table.
 pub const TABLE_WORDS: usize = 2129;
@@ -48,6 +51,10 @@ pub const AGENTS: usize = 16;
 pub const ROWS: usize = 32;
 /// Registers of an agent.
 pub const REGISTERS: usize = 4;
+/// The last time that a window may reach.
+pub const LAST_TIME: u32 = 1_000_000;
+/// Bytes of the longest input of a [`trace`].
+pub const TRACE_INPUT_BYTES: usize = 65_536;
 /// Bytes of the longest output of a [`trace`].
 pub const TRACE_OUTPUT_BYTES: usize = 24_073;
 
@@ -92,20 +99,20 @@ pub fn read(text: &[u8], table: &mut [u32]) -> Told {
     let told = unsafe {
         archive::tannoplex_read(text.as_ptr(), text.len(), table.as_mut_ptr(), table.len())
     };
-    Told { reply: Reply::of(told.reply), line: told.line }
+    Told { reply: given(told.reply), line: told.line }
 }
 
 /// Checks the words of a table: [`Reply::BufferTooShort`], [`Reply::BadTable`] or
 /// [`Reply::Accepted`].
 pub fn check(table: &[u32]) -> Reply {
     // SAFETY: as in `read`; nothing is written.
-    Reply::of(unsafe { archive::tannoplex_check(table.as_ptr(), table.len()) })
+    given(unsafe { archive::tannoplex_check(table.as_ptr(), table.len()) })
 }
 
 /// Makes the start state of a table: clock 1, positions 0, the table's registers, no marks.
 pub fn start(table: &[u32], state: &mut [u32]) -> Reply {
     // SAFETY: as in `read`.
-    Reply::of(unsafe {
+    given(unsafe {
         archive::tannoplex_start(table.as_ptr(), table.len(), state.as_mut_ptr(), state.len())
     })
 }
@@ -113,7 +120,7 @@ pub fn start(table: &[u32], state: &mut [u32]) -> Reply {
 /// One step of `agent` at `time`. Any numbers may be given.
 pub fn step(table: &[u32], state: &mut [u32], agent: u32, time: u32) -> Reply {
     // SAFETY: as in `read`.
-    Reply::of(unsafe {
+    given(unsafe {
         archive::tannoplex_step(
             table.as_ptr(),
             table.len(),
@@ -138,7 +145,7 @@ pub fn run(table: &[u32], state: &mut [u32], choices: &[u32]) -> Ran {
             choices.len(),
         )
     };
-    Ran { reply: Reply::of(ran.reply), count: ran.count }
+    Ran { reply: given(ran.reply), count: ran.count }
 }
 
 /// Traces an input, a table's text and then choice lines, into `out`, which has at least
@@ -148,7 +155,7 @@ pub fn trace(input: &[u8], out: &mut [u8]) -> Traced {
     let traced = unsafe {
         archive::tannoplex_trace(input.as_ptr(), input.len(), out.as_mut_ptr(), out.len())
     };
-    Traced { reply: Reply::of(traced.reply), length: traced.length }
+    Traced { reply: given(traced.reply), length: traced.length }
 }
 
 /// The clock of a state.
@@ -157,19 +164,17 @@ pub fn trace(input: &[u8], out: &mut [u8]) -> Traced {
 /// is too short or the agent or register does not exist.
 #[must_use]
 pub fn clock(state: &[u32]) -> u32 {
-    state[0]
+    state[places::STATE_CLOCK]
 }
 
 /// The position of an agent; equal to its row count once it has ended.
 #[must_use]
 pub fn position(state: &[u32], agent: usize) -> u32 {
-    assert!(agent < AGENTS, "no agent {agent}");
-    state[1 + agent]
+    state[places::state_position(agent)]
 }
 
 /// A register of an agent.
 #[must_use]
 pub fn register(state: &[u32], agent: usize, register: usize) -> u32 {
-    assert!(agent < AGENTS && register < REGISTERS, "no register {register} of agent {agent}");
-    state[1 + AGENTS + REGISTERS * agent + register]
+    state[places::state_register(agent, register)]
 }

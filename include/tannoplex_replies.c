@@ -1,0 +1,31 @@
+/*
+ * The replies in words. The tests hold them to those of rust/tannoplex, of tannoplex.h and of the
+ * README, and scripts read them by line: each reply has a line of its own in this form, in order.
+ */
+#include "tannoplex_replies.h"
+
+static const char *const texts[] = {
+    /* 0 */ "accepted",
+    /* 1 */ "table, state or output buffer too short",
+    /* 2 */ "a line is malformed",
+    /* 3 */ "a line out of its place, or too many agents or rows",
+    /* 4 */ "unknown op, register above 3, n above 31, or an unused field not 0",
+    /* 5 */ "a target above the row count",
+    /* 6 */ "early not below late, or late above 1,000,000",
+    /* 7 */ "early or late below that of the row before",
+    /* 8 */ "the table words break a rule",
+    /* 9 */ "the state words do not fit the table",
+    /* 10 */ "no such agent",
+    /* 11 */ "the agent has ended",
+    /* 12 */ "time below the clock",
+    /* 13 */ "time below the row's early",
+    /* 14 */ "stuck: no agent and time at all would be accepted",
+    /* 15 */ "time above some unfinished agent's late",
+    /* 16 */ "the list of choices has an odd number of words",
+    /* 17 */ "the trace program's input is above 65,536 bytes",
+};
+
+const char *tannoplex_reply_text(uint32_t reply)
+{
+    return reply < sizeof texts / sizeof texts[0] ? texts[reply] : "unknown reply";
+}

@@ -1,0 +1,21 @@
+/*
+ * The replies in words, for messages and logs. They are not in the archive, which holds what is
+ * proved and nothing else: compile tannoplex_replies.c with your program.
+ */
+#ifndef TANNOPLEX_REPLIES_H
+#define TANNOPLEX_REPLIES_H
+
+#include <stdint.h>
+
+#ifdef __cplusplus
+extern "C" {
+#endif
+
+/* The words of a reply's number; "unknown reply" where there is no such reply, never NULL. */
+const char *tannoplex_reply_text(uint32_t reply);
+
+#ifdef __cplusplus
+}
+#endif
+
+#endif
