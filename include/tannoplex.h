@@ -7,12 +7,16 @@
  * decided by the table and the state; in whatever order the choices come, each agent passes through
  * the same states.
  *
- * Link with libboard.a (`rt staticlib board` writes it to target/staticlib), for x86-64. It takes
- * memcpy and memset from the C library, and nothing else. Stack, read off the compiled code and
- * covered by no proof: tannoplex_trace under 24 KiB, tannoplex_read under 9 KiB, the others under 2.
+ * Link with libboard.a (`tools/proved archive` writes it to target/staticlib), for x86-64. It takes
+ * memcpy and memset from the C library, and nothing else. Installed (`tools/install PREFIX`) it is
+ * libtannoplex.a, and pkg-config knows it as tannoplex. The replies in words are a C file of their
+ * own, tannoplex_replies.c.
  *
- * Installed (`tools/install PREFIX`) the archive is libtannoplex.a, and pkg-config knows it as
- * tannoplex. The replies in words are a C file of their own, tannoplex_replies.c.
+ * Stack
+ *   At most what the macros below say, read off the compiled code, measured (examples/c/stack.c) and
+ *   covered by no proof. It is that of a board's program, in which memcpy and memset are bound when
+ *   it starts: linked statically, or with -z now. Where they are bound lazily, the first call that
+ *   copies takes the loader's stack too, which was 3.5 KiB more where it was measured.
  *
  * Buffers
  *   The caller lends every buffer for the time of the call, with its length: in bytes for text, in
@@ -87,6 +91,11 @@ extern "C" {
 #define TANNOPLEX_LAST_TIME 1000000
 #define TANNOPLEX_TRACE_INPUT_BYTES 65536  /* the longest input of a trace */
 #define TANNOPLEX_TRACE_OUTPUT_BYTES 24073 /* the longest output: 512 lines of 47 bytes, one of 9 */
+
+/* Stack that a call takes at most: a trace, a read, each of the others. */
+#define TANNOPLEX_TRACE_STACK_BYTES 24576
+#define TANNOPLEX_READ_STACK_BYTES 9216
+#define TANNOPLEX_STACK_BYTES 2048
 
 /* Where the parts of a table and of a state begin. */
 #define TANNOPLEX_TABLE_AGENTS 0

@@ -57,6 +57,12 @@ pub const LAST_TIME: u32 = 1_000_000;
 pub const TRACE_INPUT_BYTES: usize = 65_536;
 /// Bytes of the longest output of a [`trace`].
 pub const TRACE_OUTPUT_BYTES: usize = 24_073;
+/// Stack that a [`trace`] takes at most in the archive, as `include/tannoplex.h` tells.
+pub const TRACE_STACK_BYTES: usize = 24_576;
+/// Stack that a [`read`] takes at most in the archive.
+pub const READ_STACK_BYTES: usize = 9216;
+/// Stack that any other call takes at most in the archive.
+pub const STACK_BYTES: usize = 2048;
 
 /// What [`read`] answers.
 #[derive(Clone, Copy, Debug, PartialEq, Eq)]
