@@ -19,6 +19,9 @@ fn seed() -> Result<u64, String> {
 }
 
 fn compared() -> Result<(), String> {
+    if std::env::args_os().len() > 1 {
+        return Err("it takes no arguments; TANNOPLEX_SEED sets the seed".to_string());
+    }
     let seed = seed()?;
     let board = archive::Archive::new()?;
     println!("seed {seed} (TANNOPLEX_SEED={seed} runs these cases again)");
