@@ -7,10 +7,10 @@
  * decided by the table and the state; in whatever order the choices come, each agent passes through
  * the same states.
  *
- * Link with libboard.a (`tools/proved archive` writes it to target/staticlib), for x86-64. It takes
- * memcpy and memset from the C library, and nothing else. Installed (`tools/install PREFIX`) it is
- * libtannoplex.a, and pkg-config knows it as tannoplex. The replies in words are a C file of their
- * own, tannoplex_replies.c.
+ * Link with libboard.a, for x86-64, which `tools/proved archive` writes to target/staticlib in the
+ * repository. It takes memcpy and memset from the C library, and nothing else. Installed, by
+ * `tools/install PREFIX`, it is libtannoplex.a, and pkg-config knows it as tannoplex. The replies in
+ * words are a C file of their own, tannoplex_replies.c.
  *
  * Stack
  *   At most what the macros below say, read off the compiled code, measured (examples/c/stack.c) and
@@ -33,8 +33,9 @@
  *
  * Refusals
  *   A call answers TANNOPLEX_ACCEPTED or the number of the first refusal that holds, in the order
- *   that is given with the call. A refusal leaves every lent buffer as it was, with one exception:
- *   tannoplex_run that is refused at a choice leaves the state after the steps accepted before.
+ *   that is given with the call. A refusal leaves every lent buffer as it was, with two exceptions:
+ *   tannoplex_run that is refused at a choice leaves the state after the steps accepted before, and
+ *   tannoplex_trace writes its output with the refusal in the last line, unless that has no room.
  *
  * Words of a table
  *   0              number of agents
@@ -114,7 +115,7 @@ extern "C" {
 #define TANNOPLEX_ROW_EARLY 2
 #define TANNOPLEX_ROW_LATE 3
 
-/* Casts for the macros below, each in the language's own form, so that no compiler warns of them. */
+/* Casts for the macros below, each in the language's own form. */
 #ifdef __cplusplus
 #define TANNOPLEX_AS_PLACE(number) (static_cast<size_t>(number))
 #define TANNOPLEX_AS_WORD(number) (static_cast<uint32_t>(number))

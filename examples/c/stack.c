@@ -74,6 +74,11 @@ int main(void)
             fprintf(stderr, "%s takes more than the header says\n", calls[i].name);
             status = 1;
         }
+        /* Every call takes some. A compiler that touches each page of an array hides it. */
+        if (taken == 0) {
+            fprintf(stderr, "%s: nothing was measured\n", calls[i].name);
+            status = 1;
+        }
         /* A call that is refused may not go as deep. */
         if (reply != TANNOPLEX_ACCEPTED) {
             fprintf(stderr, "%s is refused with %u\n", calls[i].name, reply);

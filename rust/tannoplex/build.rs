@@ -5,6 +5,7 @@
 //! The archive is for x86-64: for another target it is linked into a program of its own, `bridge.c`,
 //! which `src/emulated.rs` runs.
 
+use std::env::{var, var_os};
 use std::path::{Path, PathBuf};
 use std::process::Command;
 
@@ -20,10 +21,12 @@ fn main() {
 }
 
 fn linked() -> Result<(), String> {
-    let root = Path::new(env!("CARGO_MANIFEST_DIR")).join("../..");
-    println!("cargo:rerun-if-env-changed={FOLDER}");
-    let folder = match std::env::var_os(FOLDER) {
-        Some(folder) => PathBuf::from(folder),
+    // Not by `env!`: cargo may run this script as it was compiled in another copy of the repository.
+    let package = PathBuf::from(var_os("CARGO_MANIFEST_DIR").expect("cargo sets it"));
+    let root = package.join("../..");
+    let folder = match var_os(FOLDER).map(PathBuf::from) {
+        Some(folder) if folder.is_absolute() => folder,
+        Some(folder) => return Err(format!("{FOLDER}={} is not absolute", folder.display())),
         None => proved(&root)?,
     };
     let folder = folder.canonicalize().map_err(|error| format!("{}: {error}", folder.display()))?;
@@ -31,22 +34,27 @@ fn linked() -> Result<(), String> {
     let Some(name) = NAMES.iter().find(|name| archive(name).exists()) else {
         return Err(format!("{} has no libboard.a and no libtannoplex.a", folder.display()));
     };
+    println!("cargo:rerun-if-env-changed={FOLDER}");
     println!("cargo:rerun-if-changed={}", archive(name).display());
-    if std::env::var("CARGO_CFG_TARGET_ARCH").as_deref() != Ok("x86_64") {
-        return build_bridge(&root, &archive(name));
+    match (var("CARGO_CFG_TARGET_ARCH").as_deref(), var("CARGO_CFG_TARGET_OS").as_deref()) {
+        (Ok("x86_64"), Ok(system @ ("macos" | "windows"))) => {
+            Err(format!("the archive has the form of Linux's, and cannot be linked for {system}"))
+        }
+        (Ok("x86_64"), _) => {
+            println!("cargo:rustc-link-search=native={}", folder.display());
+            println!("cargo:rustc-link-lib=static={name}");
+            Ok(())
+        }
+        _ => build_bridge(&package, &root, &archive(name)),
     }
-    println!("cargo:rustc-link-search=native={}", folder.display());
-    println!("cargo:rustc-link-lib=static={name}");
-    Ok(())
 }
 
 /// The folder of the archive that the sources in the repository give.
 fn proved(root: &Path) -> Result<PathBuf, String> {
-    let tool = root.join("tools/proved");
-    for source in [&tool, &root.join("crates.txt"), &root.join("crates")] {
-        println!("cargo:rerun-if-changed={}", source.display());
-    }
-    match Command::new(&tool).arg("archive").status() {
+    // A file that is never there has cargo run this each time: the check goes by what the sources
+    // hold, where cargo would go by their times.
+    println!("cargo:rerun-if-changed={}", root.join("target/always").display());
+    match Command::new(root.join("tools/proved")).arg("archive").status() {
         Ok(status) if status.success() => Ok(root.join("target/staticlib")),
         _ => Err(format!(
             "tools/proved archive failed: the archive of the proved library cannot be built. \
@@ -55,13 +63,13 @@ fn proved(root: &Path) -> Result<PathBuf, String> {
     }
 }
 
-fn build_bridge(root: &Path, archive: &Path) -> Result<(), String> {
-    let source = Path::new(env!("CARGO_MANIFEST_DIR")).join("bridge.c");
+fn build_bridge(package: &Path, root: &Path, archive: &Path) -> Result<(), String> {
+    let source = package.join("bridge.c");
     let (tool, include) = (root.join("tools/x86"), root.join("include"));
     for file in [&source, &tool, &include] {
         println!("cargo:rerun-if-changed={}", file.display());
     }
-    let bridge = Path::new(&std::env::var_os("OUT_DIR").expect("cargo sets it")).join("bridge");
+    let bridge = PathBuf::from(var_os("OUT_DIR").expect("cargo sets it")).join("bridge");
     let built = Command::new(&tool)
         .args(["cc", "-std=c99", "-O2", "-Wall", "-Wextra", "-Werror", "-I"])
         .args([&include, Path::new("-o"), &bridge, &source, archive])

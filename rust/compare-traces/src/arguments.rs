@@ -16,12 +16,13 @@ state by state, as far as both go. Times and the order of the steps are left out
 
   --whole  ask that each agent is shown equally far on both sides
   --help   print this
-  --       what follows is a file's name
+  --       what follows is a file's name, but for -
 
 exit 0  what both show agrees
 exit 1  a difference; or one side was refused and the other was not, nothing was compared, or an
         agent is not whole, each of which is told as such
 exit 2  A or B cannot be read or is no output of the trace program, or the report cannot be written
+        (to an output that is closed nothing is written, and the exit is the verdict's)
 ";
 
 pub enum Asked {

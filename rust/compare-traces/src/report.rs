@@ -60,8 +60,8 @@ impl Report<'_> {
                 writeln!(f, "{}", self.compared())
             }
             Verdict::NothingCompared => {
-                write!(f, "refusal, not a difference: no agent has a step on both sides; ")?;
-                writeln!(f, "{}", self.compared())
+                write!(f, "refusal, not a difference: nothing can be compared, since no agent ")?;
+                writeln!(f, "has a step on both sides")
             }
             Verdict::NotWhole(Agent { number, first, second }) => {
                 let (first, second) = (first.len(), second.len());
@@ -212,7 +212,7 @@ refusal, not a difference: only the first was refused; nothing was compared
         let agree = "1 agent agrees in all 2 states that both show; both were refused";
         assert_verdict(&refused, &refused, true, agree);
         let nothing =
-            "refusal, not a difference: no agent has a step on both sides; nothing was compared";
+            "refusal, not a difference: nothing can be compared, since no agent has a step on both sides";
         assert_verdict(&["FE000000\n"], &["FE000000\n"], false, nothing);
         let not_whole = "not whole, not a difference: agent 2 is shown to step 1 in the first, \
                          0 in the second; 1 agent agrees in the 1 state that both show";

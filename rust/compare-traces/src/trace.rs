@@ -1,6 +1,7 @@
 //! What an output of the trace program shows. The steps are those of `stepsShown` in
 //! `crates/demands/specs/Traces.antt`, a line's fields those of `stepIn`. That parse passes over a
-//! line that shows no step; here whatever no trace has is malformed, so that no other file counts.
+//! line that shows no step; here it is malformed, as are fields that no step has, so that a file of
+//! another kind does not pass for a trace. Whether the steps are those of a table is not looked at.
 
 use replies::Reply;
 

@@ -108,7 +108,7 @@ fn no_common_agent_is_no_agreement() {
     let folder = Folder::new("no-common-agent").with("one", SHORT).with("other", OF_AGENT_2);
     let ended = folder.run(&["one", "other"]);
     let nothing =
-        "refusal, not a difference: no agent has a step on both sides; nothing was compared";
+        "refusal, not a difference: nothing can be compared, since no agent has a step on both sides";
     ended.assert_verdict(1, nothing);
     assert!(ended.out.contains("    1       1       0  only in the first\n"), "{}", ended.out);
     assert!(ended.out.contains("    2       0       1  only in the second\n"), "{}", ended.out);

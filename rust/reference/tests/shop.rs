@@ -5,8 +5,9 @@ use std::path::Path;
 use reference::reader::table_of_text;
 use reference::{State, Table};
 
+/// Cargo runs a test in its package's folder.
 fn file(name: &str) -> Vec<u8> {
-    let path = Path::new(env!("CARGO_MANIFEST_DIR")).join("../../examples/shop").join(name);
+    let path = Path::new("../../examples/shop").join(name);
     std::fs::read(&path).unwrap_or_else(|error| panic!("{}: {error}", path.display()))
 }
 

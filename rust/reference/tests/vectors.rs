@@ -9,7 +9,7 @@ fn folders() -> (PathBuf, PathBuf) {
     if let Some(folder) = std::env::var_os("TANNOPLEX_VECTORS") {
         return (PathBuf::from(&folder), PathBuf::from(folder));
     }
-    let vectors = Path::new(env!("CARGO_MANIFEST_DIR")).join("../../crates/vectors");
+    let vectors = Path::new("../../crates/vectors");
     (vectors.join("data"), vectors.join("expected"))
 }
 

@@ -8,8 +8,8 @@
 //! Tables and states are words of 32 bits in buffers that the caller lends, [`TABLE_WORDS`] and
 //! [`STATE_WORDS`] long or longer; words past these lengths are never read or written. Nothing is
 //! allocated and nothing is kept between calls. Every refusal leaves the lent buffers as they were,
-//! with one exception: a [`run`] that is refused at a choice leaves the state after the steps that
-//! were accepted before it.
+//! with two exceptions: a [`run`] that is refused at a choice leaves the state after the steps that
+//! were accepted before it, and a [`trace`] writes its output with the refusal in the last line.
 //!
 //! ```
 //! use tannoplex::{Reply, STATE_WORDS, TABLE_WORDS};
@@ -25,6 +25,7 @@
 //! let mut state = [0; STATE_WORDS];
 //! let ran = tannoplex::run(&table, &mut state, &[0, 3, 1, 4]);
 //! assert_eq!((ran.reply, ran.count), (Reply::Accepted, 2));
+//! assert_eq!((tannoplex::clock(&state), tannoplex::position(&state, 1)), (4, 1));
 //! assert_eq!(tannoplex::register(&state, 1, 1), 5);
 //! ```
 

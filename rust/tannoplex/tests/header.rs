@@ -7,8 +7,9 @@ use std::path::Path;
 
 use tannoplex::{ops, places, Reply};
 
+/// A file of the repository: cargo runs a test in its package's folder.
 fn file(name: &str) -> String {
-    let path = Path::new(env!("CARGO_MANIFEST_DIR")).join("../..").join(name);
+    let path = Path::new("../..").join(name);
     fs::read_to_string(path).unwrap_or_else(|error| panic!("{name}: {error}"))
 }
 
