@@ -3,10 +3,11 @@ use mathlib.Core.Path.{_≡_, refl, ap, _∙_}
 use mathlib.Core.Logic.{_≢_}
 use mathlib.Core.Bool.{Bool, true, false, _&&_, cond}
 use mathlib.Core.List.{List}
-use Prim.Native.Nat.{ℕ, _+_, _<_, _≤_}
+use Prim.Native.Nat.{ℕ, _+_, _%_, _^_, _<_, _≤_}
 use native.Mathlib.Decide.{ℕ-discrete}
 use native.Mathlib.Omega.{arith}
 use lib.Dec.{eqb}
+use lib.Count.{onesIn, trailingZeros}
 use lib.ListN.{length, set, take, drop, getD, length-set, length-take, length-drop}
 use lib.Seq.{length-sets, getD-set-same, getD-set-other}
 use borrow.Author.Tests.{eq-eqb, ne-eqb}
@@ -23,9 +24,15 @@ use Rattle.choices.proofs.Lists.{getD-sets-other, part-same, part-sets}
 
 -- ---- a row's effect on its agent
 
--- a row only puts a value into a register, or goes on to a position from p+1 to p+1+n
-module _ (P : Agent → Type 0) (r : Row) (s : Agent) (puts : (x v : ℕ) → P (put x v s))
-    (goes : (p : ℕ) → s .pos < p → p ≤ s .pos + 1 + r .n → P (goTo p s)) where
+-- the value of the message that a RECV takes, where it takes one
+abbrev pub Carries : (ℕ → Type 0) → Best → Type 0
+Carries W Nothing = Unit
+Carries W (Message l b i v) = W v
+
+-- a row only puts a value into a register, one of those of which W is shown here, or goes on to a position from p+1 to p+1+n
+module _ (P : Agent → Type 0) (W : ℕ → Type 0) (r : Row) (s : Agent) (puts : (x v : ℕ) → W v → P (put x v s))
+    (goes : (p : ℕ) → s .pos < p → p ≤ s .pos + 1 + r .n → P (goTo p s))
+    (k : W (r .k)) (remainder : (n : ℕ) → W (n % 2 ^ 32)) (ones : (y : ℕ) → W (onesIn 32 y)) (low : (y : ℕ) → W (trailingZeros 32 y)) where
   either : (b : Bool) (x y : Agent) → P x → P y → P (cond b x y)
   either true x y h k = h
   either false x y h k = k
@@ -40,14 +47,22 @@ module _ (P : Agent → Type 0) (r : Row) (s : Agent) (puts : (x v : ℕ) → P 
   goes-on : P (goTo (s .pos + 1) s)
   goes-on = goes (s .pos + 1) (omega arith) (omega arith)
 
-  receives : (m : Best) → P (receive r m s)
+  receives : (m : Best) → Carries W m → P (receive r m s)
   unfolding receive
-  receives Nothing = jumps
-  receives (Message l b i v) = puts (r .x) v
+  receives Nothing c = jumps
+  receives (Message l b i v) c = puts (r .x) v c
 
-  pub after-is : (m : Best) → P (after r m s)
+  pub after-made : (m : Best) → Carries W m → P (after r m s)
   unfolding after
-  after-is m = search (either, puts, skips, jumps, goes-on, receives) depth 12
+  after-made m c = search (either, puts, skips, jumps, goes-on, receives, k, remainder, ones, low, c) depth 14
+
+-- whatever the value
+after-is : (P : Agent → Type 0) (r : Row) (s : Agent) → ((x v : ℕ) → P (put x v s)) → ((p : ℕ) → s .pos < p → p ≤ s .pos + 1 + r .n → P (goTo p s)) → (m : Best) → P (after r m s)
+after-is P r s puts goes m = after-made P (λ v. Unit) r s (λ x v t. puts x v) goes tt (λ n. tt) (λ y. tt) (λ y. tt) m (any m)
+  where
+    any : (m : Best) → Carries (λ v. Unit) m
+    any Nothing = tt
+    any (Message l b i v) = tt
 
 pub after-four : (r : Row) (m : Best) (s : Agent) → length (s .regs) ≡ 4 → length (after r m s .regs) ≡ 4
 after-four r m s four = after-is (λ g. length (g .regs) ≡ 4) r s (λ x v. length-set (s .regs) x v ∙ four) (λ p h k. four) m

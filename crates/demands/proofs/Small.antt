@@ -16,8 +16,9 @@ use Rattle.choices.specs.declared.Best.{Best}
 use Rattle.choices.specs.declared.Best.the-variants.{Nothing, Message}
 use Rattle.choices.specs.State.{pool, agentAt, startWords, posPlace, regPlace, markPlace, valuePlace}
 use Rattle.choices.specs.Messages.{best}
-use Rattle.choices.specs.Effect.{after, receive, put}
+use Rattle.choices.specs.Effect.{after}
 use Rattle.choices.specs.Step.{accepted, withAgent, withSent}
+use Rattle.choices.proofs.After.{Carries, after-made}
 use Rattle.executive.specs.Laws.{Taken}
 use Rattle.executive.proofs.Taken.{best-taken}
 
@@ -91,34 +92,13 @@ ones-small y = let m = ones-most 32 y in omega arith
 low-small : (y : ℕ) → Word (trailingZeros 32 y)
 low-small y = let m = trailing-le 32 y in omega arith
 
--- the message that a RECV takes has a word for its value
-abbrev Carries : Best → Type 0
-Carries Nothing = Unit
-Carries (Message l b i v) = Word v
-
-module _ (r : Row) (s : Agent) (k : Word (r .k)) (regs : Small (s .regs)) where
-  abbrev Fine : Agent → Type 0
-  Fine q = Small (q .regs)
-
-  either : (b : Bool) (x y : Agent) → Fine x → Fine y → Fine (cond b x y)
-  either true x y h g = h
-  either false x y h g = g
-
-  puts : (v : ℕ) → Word v → Fine (put (r .x) v s)
-  puts v h = small-set (s .regs) (r .x) v regs h
-
-  receives : (m : Best) → Carries m → Fine (receive r m s)
-  unfolding receive
-  receives Nothing c = regs
-  receives (Message l b i v) c = puts v c
-
-  pub after-small : (m : Best) → Carries m → Fine (after r m s)
-  unfolding after
-  after-small m c = search (either, puts, receives, k, c, remainder-small, ones-small, low-small) depth 14
+after-small : (r : Row) (s : Agent) → Word (r .k) → Small (s .regs) → (m : Best) → Carries Word m → Small (after r m s .regs)
+after-small r s k regs m c =
+    after-made (λ g. Small (g .regs)) Word r s (λ x v h. small-set (s .regs) x v regs h) (λ p h l. regs) k remainder-small ones-small low-small m c
 
 -- ---- a step
 
-carried : (tb st : List ℕ) (r : Row) → Small st → (m : Best) → Taken tb (pool st) r m → Carries m
+carried : (tb st : List ℕ) (r : Row) → Small st → (m : Best) → Taken tb (pool st) r m → Carries Word m
 carried tb st r s Nothing t = tt
 carried tb st r s (Message l b i v) t = rw (t .4) (s .word (valuePlace b i))
 

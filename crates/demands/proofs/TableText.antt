@@ -20,7 +20,7 @@ use Rattle.reading.proofs.Places.{place-end, place-end-not}
 use Rattle.reading.proofs.Accepted.{Placed, placed-first, open-agent, open-on, give-row, give-on}
 use Rattle.reading.proofs.Outcomes.{accepted-placed}
 use Rattle.reading.proofs.ReadGood.{table-length, read-good}
-use Rattle.traces.proofs.Parts.{read-told, read-table}
+use Rattle.reading.proofs.Outcomes.{read-told, read-table}
 use Rattle.traces.specs.Input.{tableBytes, tableText, goodChoice, badChoice, choicesIn}
 use Rattle.demands.specs.Demand2.{Table}
 use Rattle.demands.specs.Traces.{AcceptedText, wordsOf}
@@ -37,7 +37,7 @@ module _ (text : List ℕ) (ok : AcceptedText text) where
   blank-length = length-replicate {A = ℕ} tableWords 0
 
   pub frames-accepted : framesReply (framesOf text) .reply ≡ 0
-  frames-accepted = ap (λ (q : Told). q .reply) (sym (read-told text blank blank-length)) ∙ ok
+  frames-accepted = ap (λ (q : Told). q .reply) (sym (read-told text blank (omega (arith, blank-length)))) ∙ ok
 
   pub words-read : wordsOf text ≡ tableOf (framesOf text)
   words-read = read-table text blank blank-length frames-accepted

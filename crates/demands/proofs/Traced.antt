@@ -28,7 +28,8 @@ use Rattle.traces.specs.Input.{longestInput, tableText, choiceLines, badChoiceO
 use Rattle.traces.specs.Output.{Traced, traced, after, stepLine, lastLine, traceFrom, traceOf}
 use Rattle.traces.specs.Calls.{longestOutput, written, traceInto}
 use Rattle.traces.proofs.Steps.{trace-go, trace-stop}
-use Rattle.traces.proofs.Parts.{read-told, trace-long, trace-refused, trace-malformed, trace-steps}
+use Rattle.reading.proofs.Outcomes.{read-told}
+use Rattle.traces.proofs.Parts.{trace-long, trace-refused, trace-malformed, trace-steps}
 use Rattle.demands.specs.Demand2.{Table, Fitting}
 use Rattle.demands.specs.Steps.{Step, step, stepsFrom, stepsInRun}
 use Rattle.demands.specs.Traces.{stepsShown, bytesOf, traceSteps, choicesOfInput, InputAccepted, stepLines, IsRun, TraceIsRun, ElseNoStep}
@@ -212,7 +213,7 @@ module _ (input out : List ℕ) where
   by-choices room short h zero e = all-steps (record {
     room = room;
     short = short;
-    table = ap (λ (q : Told). q .reply) (read-told (tableText input) (replicate tableWords 0) (length-replicate {A = ℕ} tableWords 0)) ∙ h;
+    table = ap (λ (q : Told). q .reply) (read-told (tableText input) (replicate tableWords 0) (omega (arith, length-replicate {A = ℕ} tableWords 0))) ∙ h;
     choices = e;
   })
   by-choices room short h (suc n) e = one-line room 2 2 (suc n) (trace-malformed input short h n e)

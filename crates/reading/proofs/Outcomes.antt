@@ -1,9 +1,9 @@
 -- The outcome of a read, by the replies of its two passes. Assumes nothing.
 use mathlib.Core.Path.{_≡_, refl, sym, ap, _∙_}
 use mathlib.Core.Bool.{Bool, true, false}
-use mathlib.Core.List.{List, _++_}
+use mathlib.Core.List.{List, _++_, append-nil}
 use Prim.Native.Nat.{ℕ, zero, suc, _≤_, _<_}
-use lib.ListN.{length, drop}
+use lib.ListN.{length, drop, drop-of-length-le}
 use lib.Dec.{ltb}
 use native.Mathlib.Omega.{arith}
 use borrow.Author.Tests.{lt-ltb, le-ltb, ltb-true, ltb-false}
@@ -100,7 +100,7 @@ module _ (text tb : List ℕ) (t : Told) (after : List ℕ) (r : Read text tb t 
           let y = ap (λ (o : ReadOutcome). o .told .reply) q in
           absurd (omega arith)
 
--- ---- the reply of a read, whatever it is
+-- ---- the reply of a read, whatever it is, and the table that it gives a buffer of just its words
 
 pub read-told : (text tb : List ℕ) → tableWords ≤ length tb → readInto text tb .told ≡ framesReply (framesOf text)
 read-told text tb long = ap (λ (o : ReadOutcome). o .told) (into text tb long) ∙ go (framesReply (framesOf text) .reply) refl
@@ -108,3 +108,9 @@ read-told text tb long = ap (λ (o : ReadOutcome). o .told) (into text tb long) 
     go : (n : ℕ) → framesReply (framesOf text) .reply ≡ n → framesInto tb (framesOf text) .told ≡ framesReply (framesOf text)
     go zero e = ap (λ (o : ReadOutcome). o .told) (accepted (framesOf text) tb e)
     go (suc n) e = ap (λ (o : ReadOutcome). o .told) (refused (framesOf text) tb (suc n) e (λ u. omega arith))
+
+pub read-table : (text tb : List ℕ) → length tb ≡ tableWords → framesReply (framesOf text) .reply ≡ 0 → readInto text tb .table ≡ tableOf (framesOf text)
+read-table text tb long h =
+    ap (λ (o : ReadOutcome). o .table) (into text tb (omega arith) ∙ accepted (framesOf text) tb h)
+    ∙ ap (λ (l : List ℕ). tableOf (framesOf text) ++ l) (drop-of-length-le tb {i = tableWords} (omega arith))
+    ∙ append-nil (tableOf (framesOf text))

@@ -1,44 +1,19 @@
 -- The output by the parts of the input: its length, its table, its choice lines. Assumes nothing.
-use mathlib.Core.Path.{_≡_, refl, ap, _∙_}
-use mathlib.Core.List.{List, _++_, append-nil}
+use mathlib.Core.Path.{_≡_, ap, _∙_}
+use mathlib.Core.List.{List}
 use Prim.Native.Nat.{ℕ, zero, suc, _≤_, _<_}
 use native.Mathlib.Omega.{arith}
-use lib.ListN.{length, drop, replicate, length-replicate, drop-of-length-le}
+use lib.ListN.{length, replicate, length-replicate}
 use borrow.Author.Tests.{lt-ltb, le-ltb}
 use Rattle.tables.specs.Layout.{tableWords}
 use Rattle.tables.specs.Frames.{Frame, framesOf}
-use Rattle.reading.specs.Reader.{told, framesReply, tableOf}
-use Rattle.reading.specs.Calls.{ReadOutcome, readOutcome, framesInto, readInto}
+use Rattle.reading.specs.Reader.{framesReply, tableOf}
+use Rattle.reading.specs.Calls.{readInto}
 use Rattle.reading.specs.declared.Told.{Told}
+use Rattle.reading.proofs.Outcomes.{read-told, read-table}
 use Rattle.choices.specs.State.{startWords}
 use Rattle.traces.specs.Input.{longestInput, tableText, choiceLines, badChoiceOf, choicesIn}
 use Rattle.traces.specs.Output.{Traced, traced, lastLine, traceFrom, traceChoices, traceTable, traceOf}
-
--- ---- what a read gives does not go by what the buffer held
-
-module _ (text tb : List ℕ) (long : length tb ≡ tableWords) where
-  read-frames : readInto text tb ≡ framesInto tb (framesOf text)
-  unfolding readInto
-  read-frames = rw (le-ltb (length tb) tableWords (omega arith), readInto)
-
-  frames-by : (fs : List Frame) (r : ℕ) → framesReply fs .reply ≡ r
-      → framesInto tb fs ≡ elim r [ zero ↦ readOutcome (framesReply fs) (tableOf fs ++ drop tableWords tb) | suc r ↦ readOutcome (framesReply fs) tb ]
-  unfolding framesInto
-  frames-by fs r h =
-      ap (λ (x : ℕ). elim x as (λ _. ReadOutcome) [ zero ↦ readOutcome (framesReply fs) (tableOf fs ++ drop tableWords tb) | suc r ↦ readOutcome (framesReply fs) tb ]) h
-
-  pub read-told : readInto text tb .told ≡ framesReply (framesOf text)
-  read-told = ap (λ (q : ReadOutcome). q .told) read-frames ∙ go (framesReply (framesOf text) .reply) refl
-    where
-      go : (r : ℕ) → framesReply (framesOf text) .reply ≡ r → framesInto tb (framesOf text) .told ≡ framesReply (framesOf text)
-      go zero h = ap (λ (q : ReadOutcome). q .told) (frames-by (framesOf text) zero h)
-      go (suc r) h = ap (λ (q : ReadOutcome). q .told) (frames-by (framesOf text) (suc r) h)
-
-  pub read-table : framesReply (framesOf text) .reply ≡ 0 → readInto text tb .table ≡ tableOf (framesOf text)
-  read-table h =
-      ap (λ (q : ReadOutcome). q .table) (read-frames ∙ frames-by (framesOf text) zero h)
-      ∙ ap (λ (l : List ℕ). tableOf (framesOf text) ++ l) (drop-of-length-le tb {i = tableWords} (omega arith))
-      ∙ append-nil (tableOf (framesOf text))
 
 -- ---- the output, by what comes first
 
@@ -69,7 +44,7 @@ module _ (input : List ℕ) (short : length input ≤ longestInput) where
   unfolding traceOf blank frames
   trace-table =
       rw (le-ltb longestInput (length input) short, traceOf)
-      (ap (λ (q : Told). traceTable q (readInto (tableText input) blank .table) input) (read-told (tableText input) blank (length-replicate {A = ℕ} tableWords 0)))
+      (ap (λ (q : Told). traceTable q (readInto (tableText input) blank .table) input) (read-told (tableText input) blank (omega (arith, length-replicate {A = ℕ} tableWords 0))))
 
   pub trace-refused : (r : ℕ) → framesReply (framesOf (tableText input)) .reply ≡ suc r
       → traceOf input ≡ traced (suc r) (lastLine (suc r) (framesReply (framesOf (tableText input)) .line))

@@ -12,12 +12,13 @@ use Rattle.tables.specs.Frames.{framesOf}
 use Rattle.reading.specs.Reader.{framesReply, tableOf}
 use Rattle.reading.specs.Calls.{ReadOutcome, Read}
 use Rattle.reading.specs.declared.Told.{Told}
+use Rattle.reading.proofs.Outcomes.{read-told, read-table}
 use Rattle.reading.proofs.ReadGood.{table-length, read-good}
 use Rattle.choices.specs.State.{startWords}
 use Rattle.traces.specs.Input.{longestInput, tableBytes, tableText, choiceLines, badChoice, badChoiceOf, choicesIn}
 use Rattle.traces.specs.Output.{traced, lastLine, traceFrom, traceOf}
 use Rattle.traces.proofs.Choices.{bad-any}
-use Rattle.traces.proofs.Parts.{read-told, read-table, trace-refused, trace-malformed, trace-steps}
+use Rattle.traces.proofs.Parts.{trace-refused, trace-malformed, trace-steps}
 
 -- the table's text ends at a place, has n lines, and was read into words that have the length of a table
 pub record Reading (input : List ℕ) (at n : ℕ) (q : Told) (tb : List ℕ) : Type 0 where
@@ -36,7 +37,7 @@ module _ {input : List ℕ} {at n : ℕ} {q : Told} {tb : List ℕ} (r : Reading
   told-is : q ≡ framesReply (framesOf (tableText input))
   told-is =
       ap (λ (x : ReadOutcome). x .told) (r .read)
-      ∙ read-told (take at input) (r .blank) (r .blank-long)
+      ∙ read-told (take at input) (r .blank) (omega (arith, r .blank-long))
       ∙ ap (λ (t : List ℕ). framesReply (framesOf t)) text
 
   pub table-refused : (q .reply ≡ 0 → ⊥) → traceOf input ≡ traced (q .reply) (lastLine (q .reply) (q .line))
