@@ -1,5 +1,5 @@
 /*
- * The replies in words. The tests hold them to those of rust/tannoplex, of tannoplex.h and of the
+ * The replies in words. The tests hold them to those of rust/header, of tannoplex.h and of the
  * README, and scripts read them by line: each reply has a line of its own in this form, in order.
  */
 #include "tannoplex_replies.h"

@@ -1,22 +1,14 @@
 /*
  * Each call once accepted and once refused, through the header: that its names, types and results
  * are those of the archive. Prints one line, or fails at the first difference.
- *
- * One agent sends its register 0, which is 5, and another receives it in register 1.
  */
 #include <stdio.h>
 #include <stdlib.h>
 #include <string.h>
 
+#include "sample.h"
 #include "tannoplex.h"
 
-#define TABLE                                                                                      \
-    "000000000005000000000000000000000000\n"                                                       \
-    "010020000000000000070000000100000003\n"                                                       \
-    "000100000000000000000000000000000000\n"                                                       \
-    "010130010000000000070000000400000008\n"                                                       \
-    "FF\n"
-#define CHOICES "020000000003\n020100000004\n"
 #define OUTPUT                                                                                     \
     "0300010000000300000005000000000000000000000000\n"                                             \
     "0301010000000400000000000000050000000000000000\n"                                             \

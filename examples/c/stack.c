@@ -8,19 +8,13 @@
  */
 #include <stdio.h>
 
+#include "sample.h"
 #include "tannoplex.h"
 
 #define DEPTH 65536 /* more than any call takes */
 #define PATTERN 0x5A
 
-#define TABLE                                                                                      \
-    "000000000005000000000000000000000000\n"                                                       \
-    "010020000000000000070000000100000003\n"                                                       \
-    "000100000000000000000000000000000000\n"                                                       \
-    "010130010000000000070000000400000008\n"                                                       \
-    "FF\n"
-
-static const uint8_t text[] = TABLE, input[] = TABLE "020000000003\n020100000004\n";
+static const uint8_t text[] = TABLE, input[] = TABLE CHOICES;
 static const uint32_t choices[] = {0, 3, 1, 4};
 static uint32_t table[TANNOPLEX_TABLE_WORDS], state[TANNOPLEX_STATE_WORDS];
 static uint8_t out[TANNOPLEX_TRACE_OUTPUT_BYTES];

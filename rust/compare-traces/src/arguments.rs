@@ -5,7 +5,9 @@ use std::fs::File;
 use std::io::{self, Read};
 use std::os::unix::ffi::OsStrExt;
 
-use crate::trace::{Malformed, Trace, LONGEST};
+use header::TRACE_OUTPUT_BYTES;
+
+use crate::trace::{Malformed, Trace};
 use crate::visible::visible;
 
 pub const USAGE: &str = "\
@@ -72,7 +74,7 @@ impl Source {
     /// The trace in it, or what to say of it. It is read once, and no further than a trace can go.
     pub fn read(&self) -> Result<Trace, String> {
         let mut bytes = Vec::new();
-        let most = LONGEST as u64 + 1;
+        let most = TRACE_OUTPUT_BYTES as u64 + 1;
         let read = match self {
             Source::Input => io::stdin().take(most).read_to_end(&mut bytes),
             Source::File(name) => {

@@ -3,24 +3,15 @@
 //! line that shows no step; here it is malformed, as are fields that no step has, so that a file of
 //! another kind does not pass for a trace. Whether the steps are those of a table is not looked at.
 
-use replies::Reply;
+use header::{Reply, AGENTS, LAST_TIME, REGISTERS, ROWS, TRACE_OUTPUT_BYTES};
 
 use crate::visible::cut;
-
-/// Most agents of a table.
-pub const AGENTS: usize = 16;
-/// Most rows of an agent, and so its last position.
-const ROWS: u32 = 32;
-/// The last time that a window may reach.
-const LAST_TIME: u32 = 1_000_000;
-/// Bytes of the longest output: a line of 47 for each row of each agent, and the last of 9.
-pub const LONGEST: usize = AGENTS * ROWS as usize * 47 + 9;
 
 /// An agent's state.
 #[derive(Clone, Copy, Debug, PartialEq, Eq)]
 pub struct State {
     pub position: u32,
-    pub registers: [u32; 4],
+    pub registers: [u32; REGISTERS],
 }
 
 /// The state after a step, and the line that shows it.
@@ -55,8 +46,9 @@ pub struct Malformed {
 impl Trace {
     /// What these bytes show: lines `03`, and the line `FE` last.
     pub fn of(bytes: &[u8]) -> Result<Trace, Malformed> {
-        if bytes.len() > LONGEST {
-            let what = format!("longer than the longest trace, which has {LONGEST} bytes");
+        if bytes.len() > TRACE_OUTPUT_BYTES {
+            let most = TRACE_OUTPUT_BYTES;
+            let what = format!("longer than the longest trace, which has {most} bytes");
             return Err(Malformed { line: None, what });
         }
         // The clock starts at 1.
@@ -114,7 +106,7 @@ impl Steps {
         let Some(states) = self.agents.get_mut(agent as usize) else {
             return Err("agent above 15".to_string());
         };
-        if shown.state.position > ROWS {
+        if shown.state.position as usize > ROWS {
             return Err("position above 32".to_string());
         }
         if time < self.clock {

@@ -31,39 +31,19 @@
 
 #![warn(missing_docs)]
 
-pub mod ops;
-pub mod places;
-
 mod archive;
 #[cfg(not(target_arch = "x86_64"))]
 mod emulated;
-mod reply;
 
-pub use replies::Reply;
-use reply::given;
+pub use header::*;
 
-/// Words of a table.
-pub const TABLE_WORDS: usize = 2129;
-/// Words of a state.
-pub const STATE_WORDS: usize = 1105;
-/// Most agents of a table, and the agents that a state has words for.
-pub const AGENTS: usize = 16;
-/// Most rows of an agent.
-pub const ROWS: usize = 32;
-/// Registers of an agent.
-pub const REGISTERS: usize = 4;
-/// The last time that a window may reach.
-pub const LAST_TIME: u32 = 1_000_000;
-/// Bytes of the longest input of a [`trace`].
-pub const TRACE_INPUT_BYTES: usize = 65_536;
-/// Bytes of the longest output of a [`trace`].
-pub const TRACE_OUTPUT_BYTES: usize = 24_073;
-/// Stack that a [`trace`] takes at most in the archive, as `include/tannoplex.h` tells.
-pub const TRACE_STACK_BYTES: usize = 24_576;
-/// Stack that a [`read`] takes at most in the archive.
-pub const READ_STACK_BYTES: usize = 9216;
-/// Stack that any other call takes at most in the archive.
-pub const STACK_BYTES: usize = 2048;
+/// The reply of a number that the archive gave.
+fn given(number: u32) -> Reply {
+    match Reply::try_from(number) {
+        Ok(reply) => reply,
+        Err(_) => panic!("libboard.a gave reply {number}, which this crate does not know"),
+    }
+}
 
 /// What [`read`] answers.
 #[derive(Clone, Copy, Debug, PartialEq, Eq)]

@@ -1,7 +1,4 @@
-//! The replies, by number and in words. They are apart from the archive, so that a tool can put the
-//! number of a reply into words without linking it.
-
-#![warn(missing_docs)]
+//! The replies, by number and in words.
 
 use std::fmt;
 

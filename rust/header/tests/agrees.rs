@@ -1,11 +1,11 @@
-//! The wrapper and the C header say the same: constants, numbers and names of the replies, the
-//! version; and the words of the replies are alike wherever they stand.
+//! This crate and the C header say the same: sizes, places, ops, numbers and names of the replies,
+//! the version; and the words of the replies are alike wherever they stand.
 
 use std::collections::BTreeMap;
 use std::fs;
 use std::path::Path;
 
-use tannoplex::{ops, places, Reply};
+use header::{ops, places, Reply};
 
 /// A file of the repository: cargo runs a test in its package's folder.
 fn file(name: &str) -> String {
@@ -64,24 +64,24 @@ fn without_remark(words: &str) -> &str {
 }
 
 #[test]
-fn every_number_of_the_header_is_the_wrappers_and_none_is_missing() {
+fn every_number_of_the_header_is_here_and_none_is_missing() {
     let version = env!("CARGO_PKG_VERSION").split('.').map(|part| part.parse().unwrap());
     let [major, minor, patch] = version.collect::<Vec<u64>>().try_into().unwrap();
     let mut expected: BTreeMap<String, u64> = [
         ("VERSION_MAJOR", major),
         ("VERSION_MINOR", minor),
         ("VERSION_PATCH", patch),
-        ("TABLE_WORDS", tannoplex::TABLE_WORDS as u64),
-        ("STATE_WORDS", tannoplex::STATE_WORDS as u64),
-        ("AGENTS", tannoplex::AGENTS as u64),
-        ("ROWS", tannoplex::ROWS as u64),
-        ("REGISTERS", tannoplex::REGISTERS as u64),
-        ("LAST_TIME", tannoplex::LAST_TIME.into()),
-        ("TRACE_INPUT_BYTES", tannoplex::TRACE_INPUT_BYTES as u64),
-        ("TRACE_OUTPUT_BYTES", tannoplex::TRACE_OUTPUT_BYTES as u64),
-        ("TRACE_STACK_BYTES", tannoplex::TRACE_STACK_BYTES as u64),
-        ("READ_STACK_BYTES", tannoplex::READ_STACK_BYTES as u64),
-        ("STACK_BYTES", tannoplex::STACK_BYTES as u64),
+        ("TABLE_WORDS", header::TABLE_WORDS as u64),
+        ("STATE_WORDS", header::STATE_WORDS as u64),
+        ("AGENTS", header::AGENTS as u64),
+        ("ROWS", header::ROWS as u64),
+        ("REGISTERS", header::REGISTERS as u64),
+        ("LAST_TIME", header::LAST_TIME.into()),
+        ("TRACE_INPUT_BYTES", header::TRACE_INPUT_BYTES as u64),
+        ("TRACE_OUTPUT_BYTES", header::TRACE_OUTPUT_BYTES as u64),
+        ("TRACE_STACK_BYTES", header::TRACE_STACK_BYTES as u64),
+        ("READ_STACK_BYTES", header::READ_STACK_BYTES as u64),
+        ("STACK_BYTES", header::STACK_BYTES as u64),
         ("TABLE_AGENTS", places::TABLE_AGENTS as u64),
         ("TABLE_ROW_COUNTS", places::TABLE_ROW_COUNTS as u64),
         ("TABLE_REGISTERS", places::TABLE_REGISTERS as u64),
@@ -125,7 +125,7 @@ fn every_number_of_the_header_is_the_wrappers_and_none_is_missing() {
             None => texts.push((name, rest)),
         }
     }
-    assert_eq!(defined, expected, "the header, then the wrapper");
+    assert_eq!(defined, expected, "the header, then this crate");
     let version = format!("\"{}\"", env!("CARGO_PKG_VERSION"));
     assert_eq!(texts, [("VERSION".to_string(), version)]);
 }
@@ -157,7 +157,7 @@ fn the_replies_are_in_the_same_words_everywhere() {
             .lines()
             .map(|line| line.strip_prefix("    /* ")?.strip_suffix("\",")?.split_once(" */ \"")),
     );
-    assert_eq!(in_c, expected, "include/tannoplex_replies.c, then the wrapper");
+    assert_eq!(in_c, expected, "include/tannoplex_replies.c, then this crate");
 
     let readme = file("README.md");
     let (_, replies) = readme.split_once("\n## Replies\n").expect("a section on replies");
@@ -165,7 +165,7 @@ fn the_replies_are_in_the_same_words_everywhere() {
         let (number, words) = line.strip_prefix("| ")?.strip_suffix(" |")?.split_once(" | ")?;
         Some((number, without_remark(words)))
     }));
-    assert_eq!(in_readme, expected, "README.md, then the wrapper");
+    assert_eq!(in_readme, expected, "README.md, then this crate");
 
     let macros = macros();
     for reply in Reply::ALL {
@@ -173,21 +173,20 @@ fn the_replies_are_in_the_same_words_everywhere() {
         let (_, rest) = macros.iter().find(|(other, _)| *other == name).expect("in the header");
         let (_, comment) = rest.split_once("/* ").unwrap_or_else(|| panic!("{name}: no words"));
         let words = comment.strip_suffix(" */").expect("a comment ends");
-        assert_eq!(without_remark(words), reply.to_string(), "TANNOPLEX_{name}, then the wrapper");
+        assert_eq!(without_remark(words), reply.to_string(), "TANNOPLEX_{name}, then this crate");
     }
 }
 
 #[test]
 fn places_end_where_the_next_part_begins() {
-    let (agent, row, register) =
-        (tannoplex::AGENTS - 1, tannoplex::ROWS - 1, tannoplex::REGISTERS - 1);
+    let (agent, row, register) = (header::AGENTS - 1, header::ROWS - 1, header::REGISTERS - 1);
     assert_eq!(places::table_row_count(agent) + 1, places::TABLE_REGISTERS);
     assert_eq!(places::table_register(agent, register) + 1, places::TABLE_ROWS);
-    assert_eq!(places::table_row(agent, row) + places::ROW_WORDS, tannoplex::TABLE_WORDS);
+    assert_eq!(places::table_row(agent, row) + places::ROW_WORDS, header::TABLE_WORDS);
     assert_eq!(places::state_position(agent) + 1, places::STATE_REGISTERS);
     assert_eq!(places::state_register(agent, register) + 1, places::STATE_MARKS);
     assert_eq!(places::state_mark(agent, row) + 1, places::STATE_VALUES);
-    assert_eq!(places::state_value(agent, row) + 1, tannoplex::STATE_WORDS);
+    assert_eq!(places::state_value(agent, row) + 1, header::STATE_WORDS);
     // As document 01 counts them.
     assert_eq!(places::table_row(2, 3), 81 + 4 * (32 * 2 + 3));
     assert_eq!(places::table_register(1, 2), 23);
