@@ -1,9 +1,11 @@
-//! Document 01 once more, in plain Rust, written from the paper alone.
+//! Document 01 once more, as change request T-01 of document 02 leaves it, in plain Rust, written from
+//! the papers alone.
 //!
 //! It is here to be compared with the proved library, so it is direct and not quick: words are
 //! decoded into tables and states, worked on as such, and encoded again.
 
 pub mod executive;
+pub mod lines;
 pub mod reader;
 pub mod reply;
 pub mod table;

@@ -1,33 +1,16 @@
 //! Frames: a table from text.
 
+use crate::lines::{first_line, number, Known};
 use crate::reply::*;
 use crate::table::{row_reply, Agent, Row, Table};
 use crate::{AGENTS, ROWS, TABLE_WORDS};
 
-/// The bytes that upper-case hexadecimal digits stand for; none where one is not such a digit or
-/// their number is odd.
-pub fn bytes_of_digits(digits: &[u8]) -> Option<Vec<u8>> {
-    let value = |digit: u8| match digit {
-        b'0'..=b'9' => Some(digit - b'0'),
-        b'A'..=b'F' => Some(digit - b'A' + 10),
-        _ => None,
-    };
-    if !digits.len().is_multiple_of(2) {
-        return None;
-    }
-    digits.chunks(2).map(|pair| Some(16 * value(pair[0])? + value(pair[1])?)).collect()
-}
+const OPENS: u8 = 0x00;
+const NEXT: u8 = 0x01;
+const END: u8 = 0xFF;
 
-/// The number in four bytes, high byte first.
-pub fn number(bytes: &[u8]) -> u32 {
-    u32::from_be_bytes(bytes[..4].try_into().unwrap())
-}
-
-/// The text up to its first newline, where it has one, and what comes after that.
-pub fn split_line(text: &[u8]) -> Option<(&[u8], &[u8])> {
-    let end = text.iter().position(|&byte| byte == b'\n')?;
-    Some((&text[..end], &text[end + 1..]))
-}
+/// The first bytes that are known in a table.
+const KNOWN: [Known; 3] = [(OPENS, 36), (NEXT, 36), (END, 2)];
 
 enum Frame {
     Opens { agent: u8, registers: [u32; 4] },
@@ -35,15 +18,14 @@ enum Frame {
     End,
 }
 
-/// The frame of one line without its newline; none where it is malformed.
-fn frame(line: &[u8]) -> Option<Frame> {
-    let bytes = bytes_of_digits(line)?;
-    match (bytes.first()?, bytes.len()) {
-        (0x00, 18) => Some(Frame::Opens {
+/// The frame of the bytes of a line, which is known and of its length.
+fn frame(bytes: &[u8]) -> Frame {
+    match bytes[0] {
+        OPENS => Frame::Opens {
             agent: bytes[1],
             registers: [2, 6, 10, 14].map(|at| number(&bytes[at..])),
-        }),
-        (0x01, 18) => Some(Frame::Next {
+        },
+        NEXT => Frame::Next {
             agent: bytes[1],
             row: Row {
                 op: bytes[2],
@@ -54,9 +36,9 @@ fn frame(line: &[u8]) -> Option<Frame> {
                 early: number(&bytes[10..]),
                 late: number(&bytes[14..]),
             },
-        }),
-        (0xFF, 1) => Some(Frame::End),
-        _ => None,
+        },
+        END => Frame::End,
+        other => unreachable!("{other:02X} is not known"),
     }
 }
 
@@ -70,7 +52,7 @@ struct Lines {
     row_lines: Vec<Vec<u32>>,
 }
 
-/// Reads all lines for 2 and 3.
+/// Reads all lines for 2, 18, 19 and 3.
 fn lines(text: &[u8]) -> Result<Lines, Refusal> {
     let mut read = Lines::default();
     let mut left = text;
@@ -79,8 +61,8 @@ fn lines(text: &[u8]) -> Result<Lines, Refusal> {
         if left.is_empty() {
             return Err((LINE_OUT_OF_PLACE, line));
         }
-        let (this, rest) = split_line(left).ok_or((MALFORMED_LINE, line))?;
-        let frame = frame(this).ok_or((MALFORMED_LINE, line))?;
+        let (bytes, rest) = first_line(left, &KNOWN).map_err(|reply| (reply, line))?;
+        let frame = frame(&bytes);
         let agents = &mut read.table.agents;
         let open_without_rows = agents.last().is_some_and(|agent| agent.rows.is_empty());
         let out_of_place = match &frame {

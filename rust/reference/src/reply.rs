@@ -2,7 +2,7 @@
 
 pub const ACCEPTED: u32 = 0;
 pub const BUFFER_TOO_SHORT: u32 = 1;
-pub const MALFORMED_LINE: u32 = 2;
+pub const BAD_CHARACTER: u32 = 2;
 pub const LINE_OUT_OF_PLACE: u32 = 3;
 pub const BAD_FIELD: u32 = 4;
 pub const BAD_TARGET: u32 = 5;
@@ -18,3 +18,5 @@ pub const STUCK: u32 = 14;
 pub const TIME_ABOVE_LATE: u32 = 15;
 pub const ODD_CHOICES: u32 = 16;
 pub const INPUT_TOO_LONG: u32 = 17;
+pub const BAD_LENGTH: u32 = 18;
+pub const UNKNOWN_FIRST_BYTE: u32 = 19;

@@ -1,12 +1,16 @@
 //! The trace program's work, from input bytes to output bytes.
 
 use crate::executive::State;
-use crate::reader::{bytes_of_digits, number, split_line, table_of_text, Refusal};
+use crate::lines::{first_line, number, split_line, Known};
+use crate::reader::{table_of_text, Refusal};
 use crate::reply::*;
 use crate::table::Table;
 
 /// The longest input.
 pub const INPUT_BYTES: usize = 65_536;
+
+/// The first byte that is known in choice lines.
+const KNOWN: [Known; 1] = [(0x02, 12)];
 
 /// The input's table part, which ends with the first line that is exactly `FF` (the whole input
 /// where there is none), and what comes after it.
@@ -24,20 +28,14 @@ fn split_table(input: &[u8]) -> (&[u8], &[u8]) {
 /// An agent and a time.
 type Choice = (u32, u32);
 
-/// The choice of one line without its newline; none where it is malformed.
-fn choice(line: &[u8]) -> Option<Choice> {
-    let bytes = bytes_of_digits(line)?;
-    (bytes.len() == 6 && bytes[0] == 0x02).then(|| (bytes[1].into(), number(&bytes[2..])))
-}
-
-/// The choices, or the number of the first malformed line.
-fn choices(text: &[u8], first_line: u32) -> Result<Vec<Choice>, u32> {
+/// The choices of lines, the first of which has this number.
+fn choices(text: &[u8], first: u32) -> Result<Vec<Choice>, Refusal> {
     let mut found = Vec::new();
     let mut left = text;
-    let mut line = first_line;
+    let mut line = first;
     while !left.is_empty() {
-        let (this, rest) = split_line(left).ok_or(line)?;
-        found.push(choice(this).ok_or(line)?);
+        let (bytes, rest) = first_line(left, &KNOWN).map_err(|reply| (reply, line))?;
+        found.push((bytes[1].into(), number(&bytes[2..])));
         left = rest;
         line += 1;
     }
@@ -52,8 +50,7 @@ fn read_input(input: &[u8]) -> Result<(Table, Vec<Choice>), Refusal> {
     let (table_text, rest) = split_table(input);
     let table = table_of_text(table_text)?;
     let table_lines = table_text.iter().filter(|&&byte| byte == b'\n').count() as u32;
-    let choices = choices(rest, table_lines + 1).map_err(|line| (MALFORMED_LINE, line))?;
-    Ok((table, choices))
+    Ok((table, choices(rest, table_lines + 1)?))
 }
 
 /// The whole output of the trace program for this input.
