@@ -4,6 +4,9 @@ use crate::reply::*;
 use crate::table::{first_bad_row, Table};
 use crate::{AGENTS, ROWS, TABLE_WORDS};
 
+/// The first bytes that are known in a table.
+const KNOWN: [u8; 3] = [0x00, 0x01, 0xFF];
+
 /// The N bytes that `2 * N` upper-case hexadecimal digits stand for.
 pub fn bytes_of_digits<const N: usize>(digits: &[[u8; 2]; N]) -> Option<[u8; N]> {
     let nibble = |c: u8| {
@@ -32,11 +35,28 @@ pub fn digit_line<const N: usize>(text: &[u8]) -> Option<[u8; N]> {
     bytes_of_digits(digits.as_chunks().0.try_into().unwrap())
 }
 
+/// Why the first line of a text is refused. It is looked at once, so that a line without end takes
+/// no more than its length, and a good text never comes here.
+#[cold]
+pub fn line_refusal(text: &[u8], known: &[u8]) -> u32 {
+    let is_digit = |c: u8| c.is_ascii_digit() || (b'A'..=b'F').contains(&c);
+    let end = text.iter().position(|&c| !is_digit(c));
+    let Some(length) = end.filter(|&at| text[at] == b'\n') else {
+        return BAD_CHARACTER;
+    };
+    let first = text[..length].first_chunk().and_then(|&pair| bytes_of_digits(&[pair]));
+    match first {
+        // It would not be refused if its length were right.
+        Some([byte]) if known.contains(&byte) => BAD_LENGTH,
+        _ => UNKNOWN_FIRST_BYTE,
+    }
+}
+
 fn number(bytes: &[u8; 18], at: usize) -> u32 {
     u32::from_be_bytes(bytes[at..at + 4].try_into().unwrap())
 }
 
-/// Reads all lines for 2 and 3 into blank words. A refusal is a reply and its line.
+/// Reads all lines for 2, 18, 19 and 3 into blank words. A refusal is a reply and its line.
 fn lines(text: &[u8], words: &mut [u32; TABLE_WORDS]) -> Result<(), (u32, u32)> {
     let mut left = text;
     let mut agents = 0;
@@ -47,7 +67,7 @@ fn lines(text: &[u8], words: &mut [u32; TABLE_WORDS]) -> Result<(), (u32, u32)> 
         }
         let Some(bytes) = digit_line::<18>(left) else {
             let Some(rest) = left.strip_prefix(b"FF\n") else {
-                return Err((MALFORMED_LINE, line));
+                return Err((line_refusal(left, &KNOWN), line));
             };
             if agents == 0 || rows == 0 {
                 return Err((LINE_OUT_OF_PLACE, line));
@@ -83,7 +103,7 @@ fn lines(text: &[u8], words: &mut [u32; TABLE_WORDS]) -> Result<(), (u32, u32)> 
                 *row = [2, 6, 10, 14].map(|at| number(&bytes, at));
                 rows += 1;
             }
-            _ => return Err((MALFORMED_LINE, line)),
+            _ => return Err((line_refusal(left, &KNOWN), line)),
         }
         left = &left[37..];
     }

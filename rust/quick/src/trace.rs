@@ -1,6 +1,6 @@
 //! The trace program's work.
 
-use crate::reader::{digit_line, read};
+use crate::reader::{digit_line, line_refusal, read};
 use crate::reply::*;
 use crate::steps::{take, Lates, State};
 use crate::table::Table;
@@ -9,6 +9,9 @@ use crate::{STATE_WORDS, TABLE_WORDS};
 /// The longest output: 512 steps of 47 bytes and the last line of 9.
 pub const OUTPUT_BYTES: usize = 512 * 47 + 9;
 const INPUT_BYTES: usize = 65_536;
+/// Bytes of a choice line, and its first byte.
+const CHOICE_LINE: usize = 13;
+const CHOICE: u8 = 0x02;
 
 /// Writes hexadecimal digits into a buffer that has room for the longest output.
 struct Writer<'a> {
@@ -62,7 +65,7 @@ fn table_end(input: &[u8]) -> usize {
 /// The agent and time of a choice line of 13 bytes.
 fn choice(line: &[u8]) -> Option<(u32, u32)> {
     let [kind, agent, time @ ..] = digit_line::<6>(line)?;
-    (kind == 2).then(|| (agent.into(), u32::from_be_bytes(time)))
+    (kind == CHOICE).then(|| (agent.into(), u32::from_be_bytes(time)))
 }
 
 /// Traces an input. Gives the length of the output.
@@ -80,16 +83,17 @@ pub fn trace(input: &[u8], output: &mut [u8; OUTPUT_BYTES]) -> usize {
     let table = Table::of(&words);
     // An accepted table has a line for each agent and each row, and the end line.
     let table_lines = words[..17].iter().sum::<u32>() + 1;
-    for (i, line) in choices.chunks(13).enumerate() {
+    for (i, line) in choices.chunks(CHOICE_LINE).enumerate() {
         if choice(line).is_none() {
-            return writer.end(MALFORMED_LINE, table_lines + 1 + i as u32);
+            let reply = line_refusal(&choices[CHOICE_LINE * i..], &[CHOICE]);
+            return writer.end(reply, table_lines + 1 + i as u32);
         }
     }
     let mut state = [0; STATE_WORDS];
     let mut state = State::start(&mut state, &table);
     let mut lates = Lates::of(&table, &state);
     let mut count = 0;
-    for (agent, time) in choices.chunks(13).filter_map(choice) {
+    for (agent, time) in choices.chunks(CHOICE_LINE).filter_map(choice) {
         let reply = take::<false>(&table, &mut state, &mut lates, agent, time);
         if reply != ACCEPTED {
             return writer.end(reply, count);
