@@ -8,7 +8,7 @@ use reference::Table;
 
 use crate::choices::Choice;
 
-/// A call, or the trace program.
+/// A call, or the trace program, whose refusals of choice lines are counted apart.
 #[derive(Clone, Copy, Debug, PartialEq, Eq)]
 pub enum Call {
     Read,
@@ -17,9 +17,14 @@ pub enum Call {
     Step,
     Run,
     Trace,
+    Choices,
 }
 
-const CALLS: [Call; 6] = [Call::Read, Call::Check, Call::Start, Call::Step, Call::Run, Call::Trace];
+const CALLS: [Call; 7] =
+    [Call::Read, Call::Check, Call::Start, Call::Step, Call::Run, Call::Trace, Call::Choices];
+
+/// What a line is refused with, in a table and in choices, before its place or its row is looked at.
+pub const LINE_REPLIES: [usize; 3] = [2, 18, 19];
 
 impl Call {
     /// The replies that it can give. 14 is not among them: the state fits its table wherever it is
@@ -27,16 +32,17 @@ impl Call {
     /// that late, its early being below, can be run at the greater of the clock and its early.
     fn replies(self) -> &'static [usize] {
         match self {
-            Call::Read => &[0, 1, 2, 3, 4, 5, 6, 7],
+            Call::Read => &[0, 1, 2, 3, 4, 5, 6, 7, 18, 19],
             Call::Check | Call::Start => &[0, 1, 8],
             Call::Step => &[0, 1, 8, 9, 10, 11, 12, 13, 15],
             Call::Run => &[0, 1, 8, 10, 11, 12, 13, 15, 16],
-            Call::Trace => &[0, 2, 3, 4, 5, 6, 7, 10, 11, 12, 13, 15, 17],
+            Call::Trace => &[0, 2, 3, 4, 5, 6, 7, 10, 11, 12, 13, 15, 17, 18, 19],
+            Call::Choices => &LINE_REPLIES,
         }
     }
 }
 
-const REPLIES: usize = 18;
+const REPLIES: usize = 20;
 /// The reply that cannot be met.
 const STUCK: usize = 14;
 
@@ -124,7 +130,9 @@ impl Counts {
         for call in CALLS {
             for &reply in call.replies() {
                 let count = self.replies[call as usize][reply];
-                at_least(format!("reply {reply} of {call:?}"), count, 5);
+                // There are many ways for a line to be wrong.
+                let floor = if LINE_REPLIES.contains(&reply) { 20 } else { 5 };
+                at_least(format!("reply {reply} of {call:?}"), count, floor);
             }
         }
         at_least("runs of 20 or more accepted steps".to_string(), self.long_runs, 10_000);

@@ -8,6 +8,7 @@ pub mod counts;
 pub mod damage;
 pub mod layout;
 pub mod lent;
+pub mod lines;
 pub mod rng;
 pub mod suite;
 pub mod tables;

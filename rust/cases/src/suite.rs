@@ -2,17 +2,20 @@
 
 use std::fmt;
 
+use reference::reader::table_of_text;
+use reference::trace::split_table;
 use reference::{State, Table, STATE_WORDS, TABLE_WORDS};
 
 use crate::board::Board;
 use crate::choices::{accepted, any, schedule, words, Choice, Order};
-use crate::counts::{Call, Counts};
+use crate::counts::{Call, Counts, LINE_REPLIES};
 use crate::damage::{damage_state, damage_table};
 use crate::layout;
 use crate::lent::Lent;
+use crate::lines::damage_text;
 use crate::rng::Rng;
 use crate::tables::{fitting_state, table, Size};
-use crate::texts::{choice_lines, damage_bytes, damaged, text};
+use crate::texts::{choice_lines, damaged, text};
 
 /// What a case is about.
 #[derive(Clone, Copy, Debug, PartialEq, Eq)]
@@ -392,8 +395,8 @@ fn trace_case(rng: &mut Rng, board: &dyn Board, counts: &mut Counts) -> Outcome 
     let table = table(rng, size);
     let mut input = if rng.percent(50) { damaged(rng, &table) } else { text(&table) };
     let mut choices = choice_lines(&mixed_choices(rng, &table));
-    if rng.percent(15) {
-        damage_bytes(rng, &mut choices);
+    if rng.percent(30) {
+        damage_text(rng, &mut choices);
     }
     input.extend(choices);
     if rng.percent(35) {
@@ -404,6 +407,12 @@ fn trace_case(rng: &mut Rng, board: &dyn Board, counts: &mut Counts) -> Outcome 
     let shown = |bytes: &[u8]| String::from_utf8_lossy(bytes).into_owned();
     let outcome = same("output", &shown(&expected), &shown(&got));
     let last = shown(&expected[expected.len() - 9..]);
-    counts.reply(Call::Trace, u32::from_str_radix(&last[2..4], 16).expect("digits"));
+    let reply = u32::from_str_radix(&last[2..4], 16).expect("digits");
+    let is_of_a_line = LINE_REPLIES.contains(&(reply as usize));
+    let call = match is_of_a_line && table_of_text(split_table(&input).0).is_ok() {
+        true => Call::Choices,
+        false => Call::Trace,
+    };
+    counts.reply(call, reply);
     outcome.map_err(|what| format!("{what}\ninput of {} bytes:\n{}", input.len(), shown(&input)))
 }

@@ -4,6 +4,7 @@ use reference::{Row, Table};
 
 use crate::choices::Choice;
 use crate::damage::damage_row;
+use crate::lines::damage_text;
 use crate::rng::Rng;
 
 /// One line of a text.
@@ -64,12 +65,12 @@ pub fn damaged(rng: &mut Rng, table: &Table) -> Vec<u8> {
     let mut lines = lines(table);
     let mut text = None;
     for _ in 0..rng.pick(&[1, 1, 1, 2, 3]) {
-        match rng.below(9) {
+        match rng.below(11) {
             0..=3 => damage_one_row(rng, &mut lines),
             4..=6 => damage_order(rng, &mut lines),
             _ => {
                 let mut bytes = text.take().unwrap_or_else(|| written(&lines));
-                damage_bytes(rng, &mut bytes);
+                damage_text(rng, &mut bytes);
                 text = Some(bytes);
             }
         }
@@ -145,36 +146,6 @@ fn too_many(rng: &mut Rng, lines: &mut Vec<Line>) {
             lines.insert(at, Line::Opens(next, [0; 4]));
             lines.insert(at + 1, Line::Row(next, row));
             at += 2;
-        }
-    }
-}
-
-/// Bytes change: mostly 2.
-pub fn damage_bytes(rng: &mut Rng, text: &mut Vec<u8>) {
-    if text.is_empty() {
-        return text.push(rng.pick(b"\nF0 "));
-    }
-    let at = rng.below(text.len());
-    let line_end = at + text[at..].iter().position(|&byte| byte == b'\n').unwrap_or(0);
-    match rng.below(16) {
-        0 => text[at] = rng.draw() as u8,
-        1 => text[at] = rng.pick(b"/:@GagZ\n\r \0\x80\xFF"),
-        2 => text[at] = rng.pick(b"0123456789ABCDEF"),
-        3 => text.insert(at, rng.pick(b"0FG\n")),
-        4 => drop(text.remove(at)),
-        5 => text.truncate(at),
-        6 => drop(text.pop()),
-        7 => text.insert(line_end, b'\r'),
-        8 => text.insert(line_end, b'\n'),
-        9 => drop(text.splice(line_end..line_end, *b"00")),
-        10 => drop(text.splice(at..(at + 2).min(text.len()), [])),
-        11 => text.extend(rng.pick(&[&b"\n"[..], b"F", b"x", b"FF\n", b"020000000001\n"])),
-        12 => text.push(rng.draw() as u8),
-        13 => text.insert(0, rng.pick(b"\n0F")),
-        14 => text[at] = text[at].to_ascii_lowercase(),
-        _ => {
-            let begin = text[..at].iter().rposition(|&byte| byte == b'\n').map_or(0, |i| i + 1);
-            text[begin] = rng.pick(b"0123456789ABCDEF");
         }
     }
 }

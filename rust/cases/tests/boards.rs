@@ -1,35 +1,13 @@
 //! The comparison, tried on boards that need no archive: the optimised implementation must pass,
 //! and boards with a fault each must not.
 
+mod faulty;
+
 use cases::suite::Kind;
 use cases::{compare, layout, Board, Plan};
+use faulty::{is_found, line_of, Faulty, Quick, GOOD};
 use reference::trace::INPUT_BYTES;
 use reference::{LAST_TIME, TABLE_WORDS};
-
-struct Quick;
-
-impl Board for Quick {
-    fn read(&self, text: &[u8], table: &mut [u32]) -> (u32, u32) {
-        quick::read(text, table)
-    }
-    fn check(&self, table: &[u32]) -> u32 {
-        quick::check(table)
-    }
-    fn start(&self, table: &[u32], state: &mut [u32]) -> u32 {
-        quick::start(table, state)
-    }
-    fn step(&self, table: &[u32], state: &mut [u32], agent: u32, time: u32) -> u32 {
-        quick::step(table, state, agent, time)
-    }
-    fn run(&self, table: &[u32], state: &mut [u32], choices: &[u32]) -> (u32, u32) {
-        quick::run(table, state, choices)
-    }
-    fn trace(&self, input: &[u8]) -> Vec<u8> {
-        let mut output = [0; quick::OUTPUT_BYTES];
-        let length = quick::trace(input, &mut output);
-        output[..length].to_vec()
-    }
-}
 
 #[test]
 fn the_optimised_implementation_passes_and_the_floors_are_met() {
@@ -51,52 +29,6 @@ fn a_comparison_of_nothing_is_below_every_floor() {
     assert!(counts.below_floors().len() > 20);
 }
 
-/// A reply with a line or a count.
-type Told = (u32, u32);
-
-/// A board with one fault, laid over the good one.
-struct Faulty {
-    read: fn(&[u8], &mut [u32]) -> Told,
-    check: fn(&[u32]) -> u32,
-    step: fn(&[u32], &mut [u32], u32, u32) -> u32,
-    run: fn(&[u32], &mut [u32], &[u32]) -> Told,
-    trace: fn(&[u8]) -> Vec<u8>,
-}
-
-const GOOD: Faulty = Faulty {
-    read: quick::read,
-    check: quick::check,
-    step: quick::step,
-    run: quick::run,
-    trace: |input| Quick.trace(input),
-};
-
-impl Board for Faulty {
-    fn read(&self, text: &[u8], table: &mut [u32]) -> (u32, u32) {
-        (self.read)(text, table)
-    }
-    fn check(&self, table: &[u32]) -> u32 {
-        (self.check)(table)
-    }
-    fn start(&self, table: &[u32], state: &mut [u32]) -> u32 {
-        quick::start(table, state)
-    }
-    fn step(&self, table: &[u32], state: &mut [u32], agent: u32, time: u32) -> u32 {
-        (self.step)(table, state, agent, time)
-    }
-    fn run(&self, table: &[u32], state: &mut [u32], choices: &[u32]) -> (u32, u32) {
-        (self.run)(table, state, choices)
-    }
-    fn trace(&self, input: &[u8]) -> Vec<u8> {
-        (self.trace)(input)
-    }
-}
-
-fn is_found(fault: &str, board: &Faulty, kind: Kind) {
-    let plan = Plan(vec![(kind, 12_000)]);
-    assert!(compare(board, &plan, 1).is_err(), "not found: {fault}");
-}
-
 #[test]
 fn faults_of_the_reader_are_found() {
     let past = |text: &[u8], table: &mut [u32]| {
@@ -106,7 +38,7 @@ fn faults_of_the_reader_are_found() {
         }
         told
     };
-    is_found("writes past 2,129", &Faulty { read: past, ..GOOD }, Kind::Read);
+    is_found("writes past 2,129", &Faulty { read: &past, ..GOOD }, Kind::Read);
     let before = |text: &[u8], table: &mut [u32]| {
         let told = quick::read(text, table);
         if told.0 == 7 {
@@ -114,14 +46,24 @@ fn faults_of_the_reader_are_found() {
         }
         told
     };
-    is_found("writes before the last row is checked", &Faulty { read: before, ..GOOD }, Kind::Read);
+    is_found(
+        "writes before the last row is checked",
+        &Faulty { read: &before, ..GOOD },
+        Kind::Read,
+    );
     let line = |text: &[u8], table: &mut [u32]| match quick::read(text, table) {
         (5, line) => (5, line + 1),
         told => told,
     };
-    is_found("tells the wrong line", &Faulty { read: line, ..GOOD }, Kind::Read);
+    is_found("tells the wrong line", &Faulty { read: &line, ..GOOD }, Kind::Read);
     let lower = |text: &[u8], table: &mut [u32]| quick::read(&text.to_ascii_uppercase(), table);
-    is_found("accepts lower case", &Faulty { read: lower, ..GOOD }, Kind::Read);
+    is_found("accepts lower case", &Faulty { read: &lower, ..GOOD }, Kind::Read);
+    let after_end = |text: &[u8], table: &mut [u32]| match quick::read(text, table) {
+        // Nowhere else is an empty line told with 3.
+        (3, line) if line_of(text, line) == Some(b"\n") => (19, line),
+        told => told,
+    };
+    is_found("looks at what follows the end", &Faulty { read: &after_end, ..GOOD }, Kind::Read);
 }
 
 #[test]
@@ -191,10 +133,10 @@ fn faults_of_the_run_are_found() {
 #[test]
 fn faults_of_the_trace_are_found() {
     let limit = |input: &[u8]| Quick.trace(&input[..input.len().min(INPUT_BYTES)]);
-    is_found("takes more than 65,536 bytes", &Faulty { trace: limit, ..GOOD }, Kind::Trace);
+    is_found("takes more than 65,536 bytes", &Faulty { trace: &limit, ..GOOD }, Kind::Trace);
     let shorter = |input: &[u8]| match input.len() {
         INPUT_BYTES => b"FE110000\n".to_vec(),
         _ => Quick.trace(input),
     };
-    is_found("17 at 65,536", &Faulty { trace: shorter, ..GOOD }, Kind::Trace);
+    is_found("17 at 65,536", &Faulty { trace: &shorter, ..GOOD }, Kind::Trace);
 }

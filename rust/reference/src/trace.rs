@@ -14,7 +14,7 @@ const KNOWN: [Known; 1] = [(0x02, 12)];
 
 /// The input's table part, which ends with the first line that is exactly `FF` (the whole input
 /// where there is none), and what comes after it.
-fn split_table(input: &[u8]) -> (&[u8], &[u8]) {
+pub fn split_table(input: &[u8]) -> (&[u8], &[u8]) {
     let mut left = input;
     while let Some((line, rest)) = split_line(left) {
         left = rest;

@@ -1,0 +1,80 @@
+//! The optimised implementation as a board, and boards with a fault each.
+
+use cases::suite::Kind;
+use cases::{compare, Board, Plan};
+
+pub struct Quick;
+
+impl Board for Quick {
+    fn read(&self, text: &[u8], table: &mut [u32]) -> (u32, u32) {
+        quick::read(text, table)
+    }
+    fn check(&self, table: &[u32]) -> u32 {
+        quick::check(table)
+    }
+    fn start(&self, table: &[u32], state: &mut [u32]) -> u32 {
+        quick::start(table, state)
+    }
+    fn step(&self, table: &[u32], state: &mut [u32], agent: u32, time: u32) -> u32 {
+        quick::step(table, state, agent, time)
+    }
+    fn run(&self, table: &[u32], state: &mut [u32], choices: &[u32]) -> (u32, u32) {
+        quick::run(table, state, choices)
+    }
+    fn trace(&self, input: &[u8]) -> Vec<u8> {
+        let mut output = [0; quick::OUTPUT_BYTES];
+        let length = quick::trace(input, &mut output);
+        output[..length].to_vec()
+    }
+}
+
+/// A reply with a line or a count.
+pub type Told = (u32, u32);
+
+/// A board with one fault, laid over the good one.
+pub struct Faulty<'f> {
+    pub read: &'f dyn Fn(&[u8], &mut [u32]) -> Told,
+    pub check: fn(&[u32]) -> u32,
+    pub step: fn(&[u32], &mut [u32], u32, u32) -> u32,
+    pub run: fn(&[u32], &mut [u32], &[u32]) -> Told,
+    pub trace: &'f dyn Fn(&[u8]) -> Vec<u8>,
+}
+
+pub const GOOD: Faulty = Faulty {
+    read: &quick::read,
+    check: quick::check,
+    step: quick::step,
+    run: quick::run,
+    trace: &|input| Quick.trace(input),
+};
+
+impl Board for Faulty<'_> {
+    fn read(&self, text: &[u8], table: &mut [u32]) -> (u32, u32) {
+        (self.read)(text, table)
+    }
+    fn check(&self, table: &[u32]) -> u32 {
+        (self.check)(table)
+    }
+    fn start(&self, table: &[u32], state: &mut [u32]) -> u32 {
+        quick::start(table, state)
+    }
+    fn step(&self, table: &[u32], state: &mut [u32], agent: u32, time: u32) -> u32 {
+        (self.step)(table, state, agent, time)
+    }
+    fn run(&self, table: &[u32], state: &mut [u32], choices: &[u32]) -> (u32, u32) {
+        (self.run)(table, state, choices)
+    }
+    fn trace(&self, input: &[u8]) -> Vec<u8> {
+        (self.trace)(input)
+    }
+}
+
+/// A line by its number, with its newline where it has one.
+pub fn line_of(text: &[u8], number: u32) -> Option<&[u8]> {
+    text.split_inclusive(|&byte| byte == b'\n').nth(number as usize - 1)
+}
+
+pub fn is_found(fault: &str, board: &Faulty, kind: Kind) {
+    let plan = Plan(vec![(kind, 12_000)]);
+    assert!(compare(board, &plan, 1).is_err(), "not found: {fault}");
+}
