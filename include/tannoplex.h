@@ -78,9 +78,9 @@ extern "C" {
 
 /* The version: the numbers for #if, and the text of them. CHANGELOG.md says what each brought. */
 #define TANNOPLEX_VERSION_MAJOR 0
-#define TANNOPLEX_VERSION_MINOR 2
+#define TANNOPLEX_VERSION_MINOR 3
 #define TANNOPLEX_VERSION_PATCH 0
-#define TANNOPLEX_VERSION "0.2.0"
+#define TANNOPLEX_VERSION "0.3.0"
 
 /* Sizes. */
 #define TANNOPLEX_TABLE_WORDS 2129
@@ -167,26 +167,31 @@ extern "C" {
 #define TANNOPLEX_CODE_N(code) (TANNOPLEX_AS_WORD(code) & 0xFF)
 
 /* Replies. The words are those of tannoplex_replies.c; what is in parentheses is said here alone. */
-#define TANNOPLEX_ACCEPTED 0          /* accepted */
-#define TANNOPLEX_BUFFER_TOO_SHORT 1  /* table, state or output buffer too short */
-#define TANNOPLEX_MALFORMED_LINE 2    /* a line is malformed */
-#define TANNOPLEX_LINE_OUT_OF_PLACE 3 /* a line out of its place, or too many agents or rows */
-#define TANNOPLEX_BAD_FIELD 4         /* unknown op, register above 3, n above 31, or an unused
-                                         field not 0 */
-#define TANNOPLEX_BAD_TARGET 5        /* a target above the row count */
-#define TANNOPLEX_BAD_WINDOW 6        /* early not below late, or late above 1,000,000 */
-#define TANNOPLEX_WINDOW_GOES_BACK 7  /* early or late below that of the row before */
-#define TANNOPLEX_BAD_TABLE 8         /* the table words break a rule */
-#define TANNOPLEX_BAD_STATE 9         /* the state words do not fit the table */
-#define TANNOPLEX_NO_SUCH_AGENT 10    /* no such agent */
-#define TANNOPLEX_AGENT_ENDED 11      /* the agent has ended */
-#define TANNOPLEX_TIME_BELOW_CLOCK 12 /* time below the clock */
-#define TANNOPLEX_TIME_BELOW_EARLY 13 /* time below the row's early */
-#define TANNOPLEX_STUCK 14            /* stuck: no agent and time at all would be accepted (though
-                                         some agent is unfinished; proved never to be met) */
-#define TANNOPLEX_TIME_ABOVE_LATE 15  /* time above some unfinished agent's late */
-#define TANNOPLEX_ODD_CHOICES 16      /* the list of choices has an odd number of words */
-#define TANNOPLEX_INPUT_TOO_LONG 17   /* the trace program's input is above 65,536 bytes */
+#define TANNOPLEX_ACCEPTED 0            /* accepted */
+#define TANNOPLEX_BUFFER_TOO_SHORT 1    /* table, state or output buffer too short */
+#define TANNOPLEX_BAD_CHARACTER 2       /* a character other than 0 to 9 and A to F, or no newline:
+                                           look for changed letters, spaces, a CR or a cut end */
+#define TANNOPLEX_LINE_OUT_OF_PLACE 3   /* a line out of its place, or too many agents or rows */
+#define TANNOPLEX_BAD_FIELD 4           /* unknown op, register above 3, n above 31, or an unused
+                                           field not 0 */
+#define TANNOPLEX_BAD_TARGET 5          /* a target above the row count */
+#define TANNOPLEX_BAD_WINDOW 6          /* early not below late, or late above 1,000,000 */
+#define TANNOPLEX_WINDOW_GOES_BACK 7    /* early or late below that of the row before */
+#define TANNOPLEX_BAD_TABLE 8           /* the table words break a rule */
+#define TANNOPLEX_BAD_STATE 9           /* the state words do not fit the table */
+#define TANNOPLEX_NO_SUCH_AGENT 10      /* no such agent */
+#define TANNOPLEX_AGENT_ENDED 11        /* the agent has ended */
+#define TANNOPLEX_TIME_BELOW_CLOCK 12   /* time below the clock */
+#define TANNOPLEX_TIME_BELOW_EARLY 13   /* time below the row's early */
+#define TANNOPLEX_STUCK 14              /* stuck: no agent and time at all would be accepted (though
+                                           some agent is unfinished; proved never to be met) */
+#define TANNOPLEX_TIME_ABOVE_LATE 15    /* time above some unfinished agent's late */
+#define TANNOPLEX_ODD_CHOICES 16        /* the list of choices has an odd number of words */
+#define TANNOPLEX_INPUT_TOO_LONG 17     /* the trace program's input is above 65,536 bytes */
+#define TANNOPLEX_BAD_LENGTH 18         /* too few or too many digits for the line's first byte:
+                                           look for a line that was cut or joined to the next */
+#define TANNOPLEX_UNKNOWN_FIRST_BYTE 19 /* no known first byte: look for an empty line, or a line of
+                                           another kind */
 
 /* What tannoplex_read answers: a reply, and the line it is about, counted from 1; 0 with
    TANNOPLEX_ACCEPTED and TANNOPLEX_BUFFER_TOO_SHORT. */
@@ -205,7 +210,11 @@ typedef struct { uint32_t reply; size_t length; } tannoplex_traced;
  *   00, agent, four registers of 4 bytes                    opens an agent; 0, 1, 2 and so on
  *   01, agent, op, x, y, n, k (4), early (4), late (4)      next row of the open agent
  *   FF                                                      the end, and the last line
- * Replies: 1; then 2 or 3 for the earliest line, 2 before 3; then 4, 5, 6 or 7 for the first row in
+ * A line with another character or without its newline is refused with 2, whatever else is wrong
+ * with it; one of digits alone with 18 where it begins as one of these three and is not as long (36,
+ * 36 and 2 digits), and with 19 where it begins otherwise or has no two digits; a good one that is
+ * out of place with 3. What follows the end line is not looked at: it is 3.
+ * Replies: 1; then 2, 18, 19 or 3 for the earliest line; then 4, 5, 6 or 7 for the first row in
  * order. Where it is accepted all words of the table are written.
  */
 tannoplex_told tannoplex_read(const uint8_t *text, size_t text_len, uint32_t *table,
@@ -242,9 +251,12 @@ tannoplex_ran tannoplex_run(const uint32_t *table, size_t table_len, uint32_t *s
  * A trace: what the trace program does. The input is the text of a table and then lines of `02`,
  * agent, time (4 bytes), one for each choice. Written are, for each accepted step, a line of `03`,
  * agent, new position, time (4 bytes), four registers (4 bytes each); then `FE`, the reply number and
- * 2 bytes: the line number for 2 to 7, zero for 17, else the count of accepted steps. Bytes of the
- * buffer after the text stay as they were. A buffer shorter than TANNOPLEX_TRACE_OUTPUT_BYTES is
- * refused with 1 before all else.
+ * 2 bytes: the line number for 2 to 7, 18 and 19, zero for 17, else the count of accepted steps.
+ * Bytes of the buffer after the text stay as they were. A buffer shorter than
+ * TANNOPLEX_TRACE_OUTPUT_BYTES is refused with 1 before all else.
+ * Choice lines are refused with 2, 18 and 19 as those of a table are, but there only `02` is known,
+ * with 12 digits: once the table is accepted and before any step, with the line's number in the
+ * whole input.
  */
 tannoplex_traced tannoplex_trace(const uint8_t *input, size_t input_len, uint8_t *out,
                                  size_t out_len);

@@ -7,7 +7,7 @@
 static const char *const texts[] = {
     /* 0 */ "accepted",
     /* 1 */ "table, state or output buffer too short",
-    /* 2 */ "a line is malformed",
+    /* 2 */ "a character other than 0 to 9 and A to F, or no newline: look for changed letters, spaces, a CR or a cut end",
     /* 3 */ "a line out of its place, or too many agents or rows",
     /* 4 */ "unknown op, register above 3, n above 31, or an unused field not 0",
     /* 5 */ "a target above the row count",
@@ -23,6 +23,8 @@ static const char *const texts[] = {
     /* 15 */ "time above some unfinished agent's late",
     /* 16 */ "the list of choices has an odd number of words",
     /* 17 */ "the trace program's input is above 65,536 bytes",
+    /* 18 */ "too few or too many digits for the line's first byte: look for a line that was cut or joined to the next",
+    /* 19 */ "no known first byte: look for an empty line, or a line of another kind",
 };
 
 const char *tannoplex_reply_text(uint32_t reply)

@@ -25,7 +25,7 @@ pub struct Shown {
 #[derive(Clone, Copy, Debug, PartialEq, Eq)]
 pub struct Last {
     pub reply: Reply,
-    /// The line of the input that is refused, with replies 2 to 7.
+    /// The line of the input that is refused, with replies 2 to 7, 18 and 19.
     pub refused_line: Option<u32>,
 }
 
@@ -142,12 +142,14 @@ fn last(reply: u32, told: u32, steps: usize) -> Result<Last, String> {
     };
     let (refused_line, fits) = match reply {
         // Refused before any step, and lines are counted from 1.
-        Reply::MalformedLine
+        Reply::BadCharacter
         | Reply::LineOutOfPlace
         | Reply::BadField
         | Reply::BadTarget
         | Reply::BadWindow
-        | Reply::WindowGoesBack => (Some(told), steps == 0 && told > 0),
+        | Reply::WindowGoesBack
+        | Reply::BadLength
+        | Reply::UnknownFirstByte => (Some(told), steps == 0 && told > 0),
         Reply::InputTooLong => (None, steps == 0 && told == 0),
         // A trace without room writes nothing, and it runs its own words, so 8, 9 and 16 cannot be.
         Reply::BufferTooShort | Reply::BadTable | Reply::BadState | Reply::OddChoices => {
@@ -231,7 +233,7 @@ FE000002
                 "time below the clock, which is 00000001: \"",
             ),
             ("03010100000004", "030101000F4241", 2, "time above 1,000,000: \"030101000F4241"),
-            ("FE000002", "FE120002", 3, "there is no reply 18: \"FE120002\""),
+            ("FE000002", "FE140002", 3, "there is no reply 20: \"FE140002\""),
             ("FE000002", "FEFF0002", 3, "there is no reply 255: \"FEFF0002\""),
         ] {
             let error = Trace::of(&altered(from, to)).unwrap_err();
@@ -260,7 +262,7 @@ FE000002
         }
         for bad in [
             "FE000003", "FE000001", "FE0F0000", "FE020002", "FE110000", "FE110002", "FE010002",
-            "FE080002", "FE090002", "FE100002",
+            "FE080002", "FE090002", "FE100002", "FE120002", "FE130002",
         ] {
             let error = Trace::of(&altered("FE000002", bad)).unwrap_err();
             assert_eq!(error.line, Some(3), "{bad}");
@@ -271,15 +273,25 @@ FE000002
     fn the_last_line_alone() {
         for (line, reply, refused_line) in [
             ("FE000000\n", Reply::Accepted, None),
-            ("FE020001\n", Reply::MalformedLine, Some(1)),
+            ("FE020001\n", Reply::BadCharacter, Some(1)),
             ("FE0713B1\n", Reply::WindowGoesBack, Some(0x13B1)),
             ("FE0A0000\n", Reply::NoSuchAgent, None),
             ("FE110000\n", Reply::InputTooLong, None),
+            ("FE120001\n", Reply::BadLength, Some(1)),
+            ("FE1313B1\n", Reply::UnknownFirstByte, Some(0x13B1)),
         ] {
             let trace = Trace::of(line.as_bytes()).unwrap();
             assert_eq!((trace.last, trace.steps()), (Last { reply, refused_line }, 0));
         }
-        for bad in ["FE010000\n", "FE020000\n", "FE080000\n", "FE100000\n", "FE110001\n"] {
+        for bad in [
+            "FE010000\n",
+            "FE020000\n",
+            "FE080000\n",
+            "FE100000\n",
+            "FE110001\n",
+            "FE120000\n",
+            "FE130000\n",
+        ] {
             assert!(Trace::of(bad.as_bytes()).is_err(), "{bad}");
         }
     }

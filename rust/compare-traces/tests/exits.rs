@@ -100,7 +100,10 @@ fn a_refused_one_does_not_agree_with_a_good_one() {
     let ended = folder.run(&["good", "refused"]);
     let refusal = "refusal, not a difference: only the second was refused; nothing was compared";
     ended.assert_verdict(1, refusal);
-    assert!(ended.out.contains("2: a line is malformed (line 1 of its input)"), "{}", ended.out);
+    let told =
+        "2: a character other than 0 to 9 and A to F, or no newline: look for changed letters, \
+                spaces, a CR or a cut end (line 1 of its input)\n";
+    assert!(ended.out.contains(told), "{}", ended.out);
 }
 
 #[test]

@@ -11,8 +11,8 @@ pub enum Reply {
     Accepted = 0,
     /// 1: table, state or output buffer too short.
     BufferTooShort = 1,
-    /// 2: a line is malformed.
-    MalformedLine = 2,
+    /// 2: a line has a character other than 0 to 9 and A to F, or lacks its newline.
+    BadCharacter = 2,
     /// 3: a line out of its place, or too many agents or rows.
     LineOutOfPlace = 3,
     /// 4: unknown op, register above 3, n above 31, or an unused field not 0.
@@ -43,14 +43,18 @@ pub enum Reply {
     OddChoices = 16,
     /// 17: the input of a trace is above 65,536 bytes.
     InputTooLong = 17,
+    /// 18: a line of digits has too few or too many of them for its first byte.
+    BadLength = 18,
+    /// 19: a line of digits has no first byte, or one that is not known where the line stands.
+    UnknownFirstByte = 19,
 }
 
 impl Reply {
     /// All replies, by number.
-    pub const ALL: [Reply; 18] = [
+    pub const ALL: [Reply; 20] = [
         Reply::Accepted,
         Reply::BufferTooShort,
-        Reply::MalformedLine,
+        Reply::BadCharacter,
         Reply::LineOutOfPlace,
         Reply::BadField,
         Reply::BadTarget,
@@ -66,6 +70,8 @@ impl Reply {
         Reply::TimeAboveLate,
         Reply::OddChoices,
         Reply::InputTooLong,
+        Reply::BadLength,
+        Reply::UnknownFirstByte,
     ];
 
     /// The reply's number.
@@ -95,7 +101,10 @@ impl fmt::Display for Reply {
         f.write_str(match self {
             Reply::Accepted => "accepted",
             Reply::BufferTooShort => "table, state or output buffer too short",
-            Reply::MalformedLine => "a line is malformed",
+            Reply::BadCharacter => {
+                "a character other than 0 to 9 and A to F, or no newline: \
+                 look for changed letters, spaces, a CR or a cut end"
+            }
             Reply::LineOutOfPlace => "a line out of its place, or too many agents or rows",
             Reply::BadField => "unknown op, register above 3, n above 31, or an unused field not 0",
             Reply::BadTarget => "a target above the row count",
@@ -111,6 +120,13 @@ impl fmt::Display for Reply {
             Reply::TimeAboveLate => "time above some unfinished agent's late",
             Reply::OddChoices => "the list of choices has an odd number of words",
             Reply::InputTooLong => "the trace program's input is above 65,536 bytes",
+            Reply::BadLength => {
+                "too few or too many digits for the line's first byte: \
+                 look for a line that was cut or joined to the next"
+            }
+            Reply::UnknownFirstByte => {
+                "no known first byte: look for an empty line, or a line of another kind"
+            }
         })
     }
 }
@@ -124,6 +140,6 @@ mod tests {
         for (number, reply) in (0..).zip(Reply::ALL) {
             assert_eq!((reply.number(), Reply::try_from(number)), (number, Ok(reply)));
         }
-        assert_eq!(Reply::try_from(18), Err(18));
+        assert_eq!(Reply::try_from(20), Err(20));
     }
 }

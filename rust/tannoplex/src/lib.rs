@@ -78,8 +78,9 @@ pub struct Traced {
 
 /// Reads the text of a table into `table`.
 ///
-/// Replies [`Reply::BufferTooShort`] first, then 2 and 3 for the earliest line, then 4 to 7 for the
-/// first row. On success the table's words are written, unused ones 0.
+/// Replies [`Reply::BufferTooShort`] first, then one of 2, 18, 19 and 3 for the earliest line, the first
+/// in this order that holds of it, then 4 to 7 for the first row. On success the table's words are
+/// written, unused ones 0.
 pub fn read(text: &[u8], table: &mut [u32]) -> Told {
     // SAFETY: both pointers come with the lengths of the slices they are taken from, and the
     // borrows last until the call returns; one is exclusive, so the buffers do not overlap.
@@ -137,6 +138,9 @@ pub fn run(table: &[u32], state: &mut [u32], choices: &[u32]) -> Ran {
 
 /// Traces an input, a table's text and then choice lines, into `out`, which has at least
 /// [`TRACE_OUTPUT_BYTES`]; bytes after the text stay as they were.
+///
+/// A choice line is refused with 2, 18 or 19 once the table is accepted and before any step; only the
+/// first byte `02` is known there.
 pub fn trace(input: &[u8], out: &mut [u8]) -> Traced {
     // SAFETY: as in `read`.
     let traced = unsafe {
