@@ -1,6 +1,7 @@
 /*
- * Each call once accepted and once refused, through the header: that its names, types and results
- * are those of the archive. Prints one line, or fails at the first difference.
+ * Each call once accepted and once refused, a read by each refusal of a line's form, through the
+ * header: that its names, types and results are those of the archive. Prints one line, or fails at
+ * the first difference.
  */
 #include <stdio.h>
 #include <stdlib.h>
@@ -14,7 +15,7 @@
     "0301010000000400000000000000050000000000000000\n"                                             \
     "FE000002\n"
 
-static const uint8_t text[] = TABLE, input[] = TABLE CHOICES;
+static const uint8_t text[] = TABLE, input[] = TABLE CHOICES, long_end[] = "FF00\n";
 static const uint32_t choices[] = {0, 3, 1, 4, 1, 4};
 static uint32_t table[TANNOPLEX_TABLE_WORDS];
 static uint32_t state[TANNOPLEX_STATE_WORDS], stepped[TANNOPLEX_STATE_WORDS];
@@ -33,7 +34,11 @@ int main(void)
     const size_t words = TANNOPLEX_TABLE_WORDS, state_words = TANNOPLEX_STATE_WORDS;
 
     tannoplex_told told = tannoplex_read(text, sizeof text - 2, table, words);
-    expect(told.reply == TANNOPLEX_MALFORMED_LINE && told.line == 5, "read, no last newline");
+    expect(told.reply == TANNOPLEX_BAD_CHARACTER && told.line == 5, "read, no last newline");
+    told = tannoplex_read(long_end, sizeof long_end - 1, table, words);
+    expect(told.reply == TANNOPLEX_BAD_LENGTH && told.line == 1, "read, an end line of four digits");
+    told = tannoplex_read(input + sizeof text - 1, sizeof CHOICES - 1, table, words);
+    expect(told.reply == TANNOPLEX_UNKNOWN_FIRST_BYTE && told.line == 1, "read, a choice line");
     told = tannoplex_read(text, sizeof text - 1, table, words);
     expect(told.reply == TANNOPLEX_ACCEPTED && told.line == 0 &&
                table[TANNOPLEX_TABLE_AGENTS] == 2,

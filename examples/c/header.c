@@ -12,7 +12,7 @@
 #if TANNOPLEX_VERSION_MAJOR == 0 && TANNOPLEX_VERSION_MINOR < 2
 #error "the version cannot be told by #if"
 #endif
-#if TANNOPLEX_SET != 0 || TANNOPLEX_RECV != 0x30 || TANNOPLEX_INPUT_TOO_LONG != 17
+#if TANNOPLEX_SET != 0 || TANNOPLEX_RECV != 0x30 || TANNOPLEX_UNKNOWN_FIRST_BYTE != 19
 #error "ops and replies cannot be told by #if"
 #endif
 
