@@ -393,7 +393,7 @@ fn pad(rng: &mut Rng, input: &mut Vec<u8>) {
 fn trace_case(rng: &mut Rng, board: &dyn Board, counts: &mut Counts) -> Outcome {
     let size = any_size(rng);
     let table = table(rng, size);
-    let mut input = if rng.percent(50) { damaged(rng, &table) } else { text(&table) };
+    let mut input = if rng.percent(40) { damaged(rng, &table) } else { text(&table) };
     let mut choices = choice_lines(&mixed_choices(rng, &table));
     if rng.percent(30) {
         damage_text(rng, &mut choices);
