@@ -212,8 +212,8 @@ typedef struct { uint32_t reply; size_t length; } tannoplex_traced;
  *   FF                                                      the end, and the last line
  * A line with another character or without its newline is refused with 2, whatever else is wrong
  * with it; one of digits alone with 18 where it begins as one of these three and is not as long (36,
- * 36 and 2 digits), and with 19 where it begins otherwise or has no two digits; a good one that is
- * out of place with 3. What follows the end line is not looked at: it is 3.
+ * 36 and 2 digits), and with 19 where it begins otherwise or has fewer than two digits; a good one
+ * that is out of place with 3. What follows the end line is not looked at: it is 3.
  * Replies: 1; then 2, 18, 19 or 3 for the earliest line; then 4, 5, 6 or 7 for the first row in
  * order. Where it is accepted all words of the table are written.
  */
