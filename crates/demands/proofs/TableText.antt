@@ -11,7 +11,8 @@ use Rattle.tables.specs.Basics.{first}
 use Rattle.tables.specs.Layout.{tableWords}
 use Rattle.tables.specs.Lines.{same, endLine, lines, number, field, digitsLine}
 use Rattle.tables.specs.Frames.{Frame, opens, gives, ends, malformed, fourWords, frameOf, framesOf}
-use Rattle.tables.proofs.Passed.{and-1}
+use Rattle.tables.proofs.Judging.{fault-some}
+use Rattle.tables.proofs.Heads.{Tells, tells}
 use Rattle.tables.proofs.Lines.{same-eq, same-self, hex-part, number-next, number-room}
 use Rattle.tables.proofs.Newlines.{joined, joined-lines, line-hex, line-length, lines-end}
 use Rattle.reading.specs.Reader.{endRules, inPlace, framesReply, loaded, tableOf}
@@ -21,7 +22,8 @@ use Rattle.reading.proofs.Accepted.{Placed, placed-first, open-agent, open-on, 
 use Rattle.reading.proofs.Outcomes.{accepted-placed}
 use Rattle.reading.proofs.ReadGood.{table-length, read-good}
 use Rattle.reading.proofs.Outcomes.{read-told, read-table}
-use Rattle.traces.specs.Input.{tableBytes, tableText, goodChoice, badChoice, choicesIn}
+use Rattle.traces.specs.Input.{tableBytes, tableText, badChoice, choicesIn}
+use Rattle.traces.proofs.Choices.{sound-choice, bad-none-head}
 use Rattle.demands.specs.Demand2.{Table}
 use Rattle.demands.specs.Traces.{AcceptedText, wordsOf}
 use Rattle.demands.proofs.Parsed.{line-first}
@@ -55,30 +57,11 @@ field-word n l i k h few within =
     let hex = hex-part l n i (k + 1) (line-hex n l h) within in
     rw (number-next l i (k + 1) k (omega arith) (omega arith)) (number-room l i (k + 1) k (omega arith) (omega arith) (omega arith) hex)
 
--- what a frame tells of its line
-abbrev Tells : List ℕ → Frame → Type 0
-Tells l (opens b ws) = (same l endLine ≡ false) × (digitsLine 36 l ≡ true) × Small ws
-Tells l (gives b ws) = (same l endLine ≡ false) × (digitsLine 36 l ≡ true) × Small ws
-Tells l ends = same l endLine ≡ true
-Tells l malformed = Unit
-
 four-small : (l : List ℕ) → digitsLine 36 l ≡ true → Small (fourWords l)
 unfolding fourWords
 four-small l h =
     let word : (i : ℕ) → i + 8 ≤ 36 → Word (field l i 8) = λ i within. field-word 36 l i 7 h (omega arith) within in
     small-cons (word 4 (omega arith)) (small-cons (word 12 (omega arith)) (small-cons (word 20 (omega arith)) (small-cons (word 28 (omega arith)) small-nil)))
-
-tells : (l : List ℕ) → Tells l (frameOf l)
-unfolding frameOf
-tells l = go (same l endLine) (digitsLine 36 l) (eqb (field l 0 2) 0x00) (eqb (field l 0 2) 0x01) refl refl
-  where
-    go : (e d z o : Bool) → same l endLine ≡ e → digitsLine 36 l ≡ d
-        → Tells l (cond e ends (cond d (cond z (opens (field l 2 2) (fourWords l)) (cond o (gives (field l 2 2) (fourWords l)) malformed)) malformed))
-    go true d z o p q = p
-    go false false z o p q = tt
-    go false true true o p q = (p, q, four-small l q)
-    go false true false true p q = (p, q, four-small l q)
-    go false true false false p q = tt
 
 -- ---- the table that is read
 
@@ -91,13 +74,13 @@ table-small (l ∷ ls) tb n a i s q = go (frameOf l) (tells l) q (λ tb n a i. t
         → ((tb : List ℕ) (n a i : ℕ) → Small tb → Placed n a i (map frameOf ls) → Small (loaded tb a i (map frameOf ls)))
         → Small (loaded tb a i (f ∷ map frameOf ls))
     go (opens b ws) t q rest =
-        let l = open-agent n a i b ws (map frameOf ls) q in
-        rest _ (n + 1) (a + 1) 0 (small-sets ws _ _ (small-set tb _ (a + 1) s (omega arith)) (t .2)) (open-on n a i b ws (map frameOf ls) q)
+        let m = open-agent n a i b ws (map frameOf ls) q in
+        rest _ (n + 1) (a + 1) 0 (small-sets ws _ _ (small-set tb _ (a + 1) s (omega arith)) (rw (t .2) (four-small l (t .1)))) (open-on n a i b ws (map frameOf ls) q)
     go (gives b ws) t q rest =
-        let l = give-row n a i b ws (map frameOf ls) q in
-        rest _ (n + 1) a (i + 1) (small-sets ws _ _ (small-set tb _ (i + 1) s (omega arith)) (t .2)) (give-on n a i b ws (map frameOf ls) q)
+        let m = give-row n a i b ws (map frameOf ls) q in
+        rest _ (n + 1) a (i + 1) (small-sets ws _ _ (small-set tb _ (i + 1) s (omega arith)) (rw (t .2) (four-small l (t .1)))) (give-on n a i b ws (map frameOf ls) q)
     go ends t q rest = s
-    go malformed t q rest = s
+    go (malformed w) t q rest = s
 
 pub read-small : (text : List ℕ) → framesReply (framesOf text) .reply ≡ 0 → Small (tableOf (framesOf text))
 unfolding tableOf framesOf
@@ -105,23 +88,14 @@ read-small text h = table-small (lines text) _ 1 0 0 (small-zeros tableWords) (p
 
 -- ---- the choices
 
-choice-digits : (l : List ℕ) → goodChoice l ≡ true → digitsLine 12 l ≡ true
-unfolding goodChoice
-choice-digits l q = and-1 (digitsLine 12 l) (eqb (field l 0 2) 0x02) q
-
-pub choices-small : (ls : List (List ℕ)) (n : ℕ) → 0 < n → badChoice n ls ≡ 0 → Small (choicesIn ls)
-unfolding badChoice choicesIn
-choices-small [] n p h = small-nil
-choices-small (l ∷ ls) n p h = go (goodChoice l) refl (λ e. choices-small ls (n + 1) (omega arith) e)
-  where
-    opened : (b : Bool) → goodChoice l ≡ b → badChoice n (l ∷ ls) ≡ elim b [ true ↦ badChoice (n + 1) ls | false ↦ n ]
-    opened b q = rw (q, badChoice)
-
-    go : (b : Bool) → goodChoice l ≡ b → (badChoice (n + 1) ls ≡ 0 → Small (choicesIn ls)) → Small (choicesIn (l ∷ ls))
-    go true q rest =
-        small-cons (field-word 12 l 2 1 (choice-digits l q) (omega arith) (omega arith))
-        (small-cons (field-word 12 l 4 7 (choice-digits l q) (omega arith) (omega arith)) (rest (sym (opened true q) ∙ h)))
-    go false q rest = let z : n ≡ 0 = sym (opened false q) ∙ h in absurd (omega arith)
+pub choices-small : (ls : List (List ℕ)) (n : ℕ) → badChoice n ls .reply ≡ 0 → Small (choicesIn ls)
+unfolding choicesIn
+choices-small [] n h = small-nil
+choices-small (l ∷ ls) n h =
+    let s = bad-none-head n l ls h in
+    let d = sound-choice l (s .0) in
+    small-cons (field-word 12 l 2 1 d (omega arith) (omega arith))
+    (small-cons (field-word 12 l 4 7 d (omega arith) (omega arith)) (choices-small ls (n + 1) (s .1)))
 
 -- ---- where the text ends
 
@@ -165,7 +139,7 @@ closes (l ∷ ls) n a i q = go (frameOf l) (tells l) q (λ n a i. closes ls n a 
     go (opens b ws) t q rest = longer (t .0) (t .1) (rest (n + 1) (a + 1) 0 (open-on n a i b ws (map frameOf ls) q))
     go (gives b ws) t q rest = longer (t .0) (t .1) (rest (n + 1) a (i + 1) (give-on n a i b ws (map frameOf ls) q))
     go ends t q rest = last (same-eq l endLine t) (none-mapped ls (ends-last n a i (map frameOf ls) q))
-    go malformed t q rest = absurd (let z = q .placed in omega arith)
+    go (malformed w) t q rest = absurd (fault-some w (q .placed))
 
 -- The table's text of an input that begins with it.
 pub table-text : (text more : List ℕ) → framesReply (framesOf text) .reply ≡ 0 → tableText (text ++ more) ≡ text

@@ -29,7 +29,7 @@ use Rattle.traces.specs.Output.{Traced, traced, after, stepLine, lastLine, trac
 use Rattle.traces.specs.Calls.{longestOutput, written, traceInto}
 use Rattle.traces.proofs.Steps.{trace-go, trace-stop}
 use Rattle.reading.proofs.Outcomes.{read-told}
-use Rattle.traces.proofs.Parts.{trace-long, trace-refused, trace-malformed, trace-steps}
+use Rattle.traces.proofs.Parts.{trace-long, trace-refused, trace-faulty, trace-steps}
 use Rattle.demands.specs.Demand2.{Table, Fitting}
 use Rattle.demands.specs.Steps.{Step, step, stepsFrom, stepsInRun}
 use Rattle.demands.specs.Traces.{stepsShown, bytesOf, traceSteps, choicesOfInput, InputAccepted, stepLines, IsRun, TraceIsRun, ElseNoStep}
@@ -155,7 +155,7 @@ module _ (input out : List ℕ) (ok : InputAccepted input out) where
   all-plain =
       let small = read-small (tableText input) read in
       steps-plain rules table small choices (startWords rules) (start-is-models rules table .0) (start-small rules small)
-      (choices-small (choiceLines input) _ (omega arith) (ok .choices))
+      (choices-small (choiceLines input) _ (ok .choices))
 
   -- the steps that it shows are those of the run
   pub shown-steps : traceSteps input out ≡ stepsFrom rules (startWords rules) choices
@@ -209,18 +209,18 @@ module _ (input out : List ℕ) where
       (ap (λ (bs : List ℕ). stepsShown (lines bs)) (long-bytes input out room ∙ ap (λ (x : Traced). x .bytes) e) ∙ last-shows r n)
 
   by-choices : longestOutput ≤ length out → length input ≤ longestInput → framesReply (framesOf (tableText input)) .reply ≡ 0
-      → (n : ℕ) → badChoiceOf input ≡ n → Gives input out
+      → (r : ℕ) → badChoiceOf input .reply ≡ r → Gives input out
   by-choices room short h zero e = all-steps (record {
     room = room;
     short = short;
     table = ap (λ (q : Told). q .reply) (read-told (tableText input) (replicate tableWords 0) (omega (arith, length-replicate {A = ℕ} tableWords 0))) ∙ h;
     choices = e;
   })
-  by-choices room short h (suc n) e = one-line room 2 2 (suc n) (trace-malformed input short h n e)
+  by-choices room short h (suc r) e = one-line room _ _ _ (trace-faulty input short h (λ z. omega arith))
 
   by-table : longestOutput ≤ length out → length input ≤ longestInput → (r : ℕ) → framesReply (framesOf (tableText input)) .reply ≡ r → Gives input out
-  by-table room short zero e = by-choices room short e (badChoiceOf input) refl
-  by-table room short (suc r) e = one-line room (suc r) (suc r) _ (trace-refused input short r e)
+  by-table room short zero e = by-choices room short e (badChoiceOf input .reply) refl
+  by-table room short (suc r) e = one-line room _ _ _ (trace-refused input short (λ z. omega arith))
 
   by-length : longestOutput ≤ length out → (b : Bool) → ltb longestInput (length input) ≡ b → Gives input out
   by-length room true e = one-line room 17 17 0 (trace-long input (ltb-true _ _ e))

@@ -65,7 +65,7 @@ pub record InputAccepted (input out : List ℕ) : Type 0 where
   pub room : longestOutput ≤ length out
   pub short : length input ≤ longestInput
   pub table : AcceptedText (tableText input)
-  pub choices : badChoiceOf input ≡ 0
+  pub choices : badChoiceOf input .reply ≡ 0
 
 -- the lines of some steps
 unfoldable pub stepLines : List Step → List ℕ

@@ -94,7 +94,7 @@ rows-fit [] n a i q = let m = q .rows in omega arith
 rows-fit (opens b ws ∷ fs) n a i q = let m = q .rows in omega arith
 rows-fit (gives b ws ∷ fs) n a i q = let m = rows-fit fs (n + 1) a (i + 1) (give-on n a i b ws fs q) in omega arith
 rows-fit (ends ∷ fs) n a i q = let m = q .rows in omega arith
-rows-fit (malformed ∷ fs) n a i q = let m = q .rows in omega arith
+rows-fit (malformed w ∷ fs) n a i q = let m = q .rows in omega arith
 
 -- no row comes before the first agent
 pub rows-none : (fs : List Frame) (n i : ℕ) → Placed n 0 i fs → rowsNext fs ≡ 0
@@ -103,7 +103,7 @@ rows-none [] n i q = refl
 rows-none (opens b ws ∷ fs) n i q = refl
 rows-none (gives b ws ∷ fs) n i q = let e = give-agent n 0 i b ws fs q in absurd (omega arith)
 rows-none (ends ∷ fs) n i q = refl
-rows-none (malformed ∷ fs) n i q = refl
+rows-none (malformed w ∷ fs) n i q = refl
 
 -- ---- the same at place p of a text
 

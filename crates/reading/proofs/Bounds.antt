@@ -1,4 +1,4 @@
--- The numbers that `read` replies with are small: a reply up to 7, a line up to 562, so that two bytes hold the line. Assumes nothing.
+-- The numbers that `read` replies with are small: a reply up to 19, a line up to 562, so that two bytes hold the line. Assumes nothing.
 use mathlib.Core.Path.{_≡_, refl, sym, ap, subst}
 use mathlib.Core.Bool.{Bool, true, false, not, cond}
 use mathlib.Core.List.{List, [], _∷_}
@@ -9,28 +9,30 @@ use lib.ListN.{length}
 use borrow.Author.Tests.{ltb-true, ltb-false}
 use Rattle.tables.specs.Basics.{first, _⇒_, Rule}
 use Rattle.tables.specs.Rows.{rowReply}
+use Rattle.tables.specs.Faults.{faultReply}
 use Rattle.tables.specs.Frames.{Frame, opens, gives, ends, malformed, framesOf}
 use Rattle.reading.specs.Reader.{told, noneLeft, endRules, toldBy, inPlace, rowsNext, rowIn, rowsGood, framesReply}
 use Rattle.tables.specs.Layout.{tableWords}
 use Rattle.reading.specs.Calls.{Read, ReadOutcome, readInto}
 use Rattle.tables.specs.declared.Row.{Row}
 use Rattle.reading.specs.declared.Told.{Told}
+use Rattle.tables.proofs.Judging.{fault-small}
 use Rattle.reading.proofs.Places.{mayOpen, mayGive, open-room, give-room, place-open, place-open-not, place-give, place-give-not, place-end, place-end-not}
 use Rattle.reading.proofs.Accepted.{Placed, placed-first, open-on, give-on}
 use Rattle.reading.proofs.RowsRead.{good-row, bad-row}
 use Rattle.reading.proofs.Outcomes.{misplaced, in-places, short-table, read-told}
 
 pub record Small (t : Told) : Type 0 where
-  pub reply : t .reply ≤ 7
+  pub reply : t .reply ≤ 19
   pub line : t .line ≤ 562
 
-small : (r n : ℕ) → r ≤ 7 → n ≤ 562 → Small (told r n)
+small : (r n : ℕ) → r ≤ 19 → n ≤ 562 → Small (told r n)
 small r n h k = record { reply = h; line = k }
 
 place-small : (fs : List Frame) (n a i : ℕ) → a ≤ 16 → i ≤ 32 → n ≤ 33 * a + i + 1 → Small (inPlace n a i fs)
 unfolding inPlace first
 place-small [] n a i h k l = small 3 n (omega arith) (omega arith)
-place-small (malformed ∷ fs) n a i h k l = small 2 n (omega arith) (omega arith)
+place-small (malformed w ∷ fs) n a i h k l = small (faultReply w) n (fault-small w) (omega arith)
 place-small (opens b ws ∷ fs) n a i h k l = go (mayOpen b a i) refl (λ m. place-small fs (n + 1) (a + 1) 0 (omega arith) (omega arith) (omega arith))
   where
     go : (t : Bool) → mayOpen b a i ≡ t → (a + 1 ≤ 16 → Small (inPlace (n + 1) (a + 1) 0 fs)) → Small (inPlace n a i (opens b ws ∷ fs))
@@ -73,7 +75,7 @@ row-small r i c e l = first-small _ refl
 rows-small : (fs : List Frame) (n a c i e l : ℕ) → Placed n a i fs → Small (rowsGood n c i e l fs)
 unfolding rowsGood
 rows-small [] n a c i e l q = small 0 0 (omega arith) (omega arith)
-rows-small (malformed ∷ fs) n a c i e l q = small 0 0 (omega arith) (omega arith)
+rows-small (malformed w ∷ fs) n a c i e l q = small 0 0 (omega arith) (omega arith)
 rows-small (ends ∷ fs) n a c i e l q = small 0 0 (omega arith) (omega arith)
 rows-small (opens b ws ∷ fs) n a c i e l q = rows-small fs (n + 1) (a + 1) (rowsNext fs) 0 0 0 (open-on n a i b ws fs q)
 rows-small (gives b ws ∷ fs) n a c i e l q =

@@ -69,7 +69,7 @@ module _ {text tb : List ℕ} {p a i : ℕ} (t : Filling text tb p a i) where
       go (opens b ws ∷ fs) f = let z : _≡_ {A = ℕ} 0 1 = cc in absurd (omega arith)
       go (gives b ws ∷ fs) f = let z : _≡_ {A = ℕ} 0 1 = cc in absurd (omega arith)
       go (ends ∷ fs) f = refl
-      go (malformed ∷ fs) f = refl
+      go (malformed w ∷ fs) f = refl
 
   pub no-words-left : length text ≤ p → tb ≡ tableOf (framesOf text)
   unfolding loaded

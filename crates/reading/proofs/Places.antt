@@ -9,14 +9,16 @@ use lib.Dec.{ltb, leb, eqb}
 use lib.ListN.{length, drop}
 use borrow.Author.Tests.{ltb-true, ltb-false, leb-false, eqb-true, eqb-false, lt-ltb, le-leb, lt-leb, eq-eqb, ne-eqb, not-false}
 use Rattle.tables.specs.Basics.{first, _⇒_, Rule}
-use Rattle.tables.specs.Frames.{Frame, opens, gives, ends, malformed, framesOf}
-use Rattle.tables.specs.Heads.{headLine, lineAt, wordsAt}
+use Rattle.tables.specs.Faults.{judgedReply, judge}
+use Rattle.tables.specs.Frames.{Frame, opens, gives, ends, malformed, tableLines, framesOf}
+use Rattle.tables.specs.Heads.{lineLength, lineFrom, headLine, lineAt, wordsAt}
+use Rattle.tables.specs.declared.faults.Judged.{Judged}
 use Rattle.reading.specs.Reader.{told, noneLeft, pastEnd, openingRules, rowRules, endRules, toldBy, inPlace, rowsNext}
 use Rattle.tables.specs.declared.frames.Line.{Line}
 use Rattle.tables.specs.declared.frames.Line.the-variants.{Opens, Gives, Ends, Malformed}
 use Rattle.tables.proofs.Tests.{and-both, and-right}
 use Rattle.tables.proofs.Passed.{testAt, passed}
-use Rattle.tables.proofs.Heads.{framed, ended, no-frames, some-frames}
+use Rattle.tables.proofs.Heads.{framed, ended, no-frames, some-frames, first-frame, faulted-at}
 
 -- ---- rules that call for 3: none is broken, or the first that is
 
@@ -192,16 +194,13 @@ module _ (text : List ℕ) (p : ℕ) (within : p ≤ length text) (n a i : ℕ) 
   unfolding first
   ended-well e y z h = rw (at-end e y z, none-after text (p + 3) h)
 
-  pub broken : lineAt text p ≡ Malformed → p < length text → inPlace n a i (framesOf (drop p text)) ≡ told 2 n
-  unfolding lineAt headLine inPlace
-  broken e h = go (framesOf (drop p text)) e (some-frames text p h)
-    where
-      go : (fs : List Frame) → headLine fs ≡ Malformed → (fs ≡ [] → ⊥) → inPlace n a i fs ≡ told 2 n
-      go [] e k = absurd (k refl)
-      go (opens b ws ∷ fs) e k = let z : _≡_ {A = ℕ} 0 1 = cc in absurd (omega arith)
-      go (gives b ws ∷ fs) e k = let z : _≡_ {A = ℕ} 0 1 = cc in absurd (omega arith)
-      go (ends ∷ fs) e k = let z : _≡_ {A = ℕ} 0 1 = cc in absurd (omega arith)
-      go (malformed ∷ fs) e k = refl
+  pub broken : lineAt text p ≡ Malformed → p < length text → inPlace n a i (framesOf (drop p text)) ≡ told (judgedReply (judge tableLines (lineFrom text p))) n
+  unfolding inPlace judgedReply
+  broken e h =
+      let f = faulted-at text p h e in
+      ap (inPlace n a i) (first-frame text p h)
+      ∙ ap (λ (x : Frame). inPlace n a i (x ∷ framesOf (drop (lineLength (drop p text)) (drop p text)))) (f .frame)
+      ∙ ap (λ (j : Judged). told (judgedReply j) n) (sym (f .judged))
 
   pub stopped : length text ≤ p → inPlace n a i (framesOf (drop p text)) ≡ told 3 n
   unfolding inPlace first
@@ -229,7 +228,7 @@ module _ (text : List ℕ) (p : ℕ) (within : p ≤ length text) where
       go (opens b ws ∷ fs) e = refl
       go (gives b ws ∷ fs) e = let z : _≡_ {A = ℕ} 0 1 = cc in absurd (omega arith)
       go (ends ∷ fs) e = refl
-      go (malformed ∷ fs) e = refl
+      go (malformed w ∷ fs) e = refl
 
   pub no-row-left : length text ≤ p → rowsNext (framesOf (drop p text)) ≡ 0
   unfolding rowsNext

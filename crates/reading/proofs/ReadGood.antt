@@ -15,6 +15,8 @@ use Rattle.tables.specs.Lines.{same, endLine, digitsLine, field, lines}
 use Rattle.tables.specs.Frames.{Frame, opens, gives, ends, malformed, fourWords, frameOf, framesOf}
 use Rattle.reading.specs.Reader.{inPlace, rowsNext, rowIn, rowsGood, framesReply, loaded, tableOf}
 use Rattle.tables.specs.Calls.{Checked}
+use Rattle.tables.proofs.Judging.{fault-some}
+use Rattle.tables.proofs.Heads.{Tells, tells}
 use Rattle.reading.specs.Calls.{Read}
 use Rattle.reading.specs.declared.Told.{Told}
 use Rattle.tables.proofs.Good.{TableFacts, table-good, good-checked}
@@ -28,7 +30,7 @@ abbrev Four : Frame → Type 0
 Four (opens b ws) = length ws ≡ 4
 Four (gives b ws) = length ws ≡ 4
 Four ends = Unit
-Four malformed = Unit
+Four (malformed w) = Unit
 
 abbrev Fours : List Frame → Type 0
 Fours [] = Unit
@@ -38,7 +40,7 @@ built : (fs tb : _) (n b i c e l : ℕ) → Fours fs → Open tb b i c e l → P
     → TableFacts (loaded tb (b + 1) i fs)
 unfolding first rowsNext rowsGood loaded inPlace after-open after-give
 built [] tb n b i c e l f t q k z = absurd (let y = q .placed in omega arith)
-built (malformed ∷ fs) tb n b i c e l f t q k z = absurd (let y = q .placed in omega arith)
+built (malformed w ∷ fs) tb n b i c e l f t q k z = absurd (fault-some w (q .placed))
 built (ends ∷ fs) tb n b i c e l f t q k z =
     all-facts tb b i c e l t (omega (arith, q .agents)) (ends-rows n (b + 1) i fs q) (q .rows) (omega arith)
 built (opens b′ ws ∷ fs) tb n b i c e l f t q k z =
@@ -68,7 +70,7 @@ built (gives b′ ws ∷ fs) tb n b i c e l f t q k z =
 first-built : (tb : List ℕ) (fs : List Frame) → Closed tb 0 → Fours fs → Placed 1 0 0 fs → rowsGood 1 0 0 0 0 fs .reply ≡ 0 → TableFacts (loaded tb 0 0 fs)
 unfolding first inPlace rowsGood loaded after-open
 first-built tb [] t f q z = absurd (let y = q .placed in omega arith)
-first-built tb (malformed ∷ fs) t f q z = absurd (let y = q .placed in omega arith)
+first-built tb (malformed w ∷ fs) t f q z = absurd (fault-some w (q .placed))
 first-built tb (ends ∷ fs) t f q z = absurd (let y = q .placed in omega arith)
 first-built tb (gives b ws ∷ fs) t f q z = absurd (let y = give-agent 1 0 0 b ws fs q in omega arith)
 first-built tb (opens b ws ∷ fs) t f q z =
@@ -91,16 +93,14 @@ no-agents n e = record {
 }
 
 frame-four : (l : List ℕ) → Four (frameOf l)
-unfolding frameOf fourWords
-frame-four l = go (same l endLine) (digitsLine 36 l) (eqb (field l 0 2) 0x00) (eqb (field l 0 2) 0x01)
+unfolding fourWords
+frame-four l = go (frameOf l) (tells l)
   where
-    go : (e d z o : Bool)
-        → Four (cond e ends (cond d (cond z (opens (field l 2 2) (fourWords l)) (cond o (gives (field l 2 2) (fourWords l)) malformed)) malformed))
-    go true d z o = tt
-    go false false z o = tt
-    go false true true o = refl
-    go false true false true = refl
-    go false true false false = tt
+    go : (f : Frame) → Tells l f → Four f
+    go (opens b ws) t = ap length (t .2)
+    go (gives b ws) t = ap length (t .2)
+    go ends t = tt
+    go (malformed w) t = tt
 
 frames-four : (ls : List (List ℕ)) → Fours (map frameOf ls)
 frames-four [] = tt
@@ -120,7 +120,7 @@ loaded-length (gives b ws ∷ fs) tb a i =
     ∙ length-sets (set tb (countPlace (a - 1)) (i + 1)) (rowPlace (a - 1) i) ws
     ∙ length-set tb (countPlace (a - 1)) (i + 1)
 loaded-length (ends ∷ fs) tb a i = refl
-loaded-length (malformed ∷ fs) tb a i = refl
+loaded-length (malformed w ∷ fs) tb a i = refl
 
 pub table-length : (fs : List Frame) → length (tableOf fs) ≡ tableWords
 unfolding tableOf

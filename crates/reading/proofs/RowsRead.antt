@@ -111,7 +111,7 @@ module _ {text : List ℕ} {p n c i e l : ℕ} (t : Turn text p n c i e l) where
       go (opens b ws ∷ fs) f = let z : _≡_ {A = ℕ} 0 1 = cc in absurd (omega arith)
       go (gives b ws ∷ fs) f = let z : _≡_ {A = ℕ} 0 1 = cc in absurd (omega arith)
       go (ends ∷ fs) f = refl
-      go (malformed ∷ fs) f = refl
+      go (malformed w ∷ fs) f = refl
 
   pub no-text : length text ≤ p → rowsGood 1 0 0 0 0 (framesOf text) ≡ told 0 0
   unfolding rowsGood

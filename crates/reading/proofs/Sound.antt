@@ -7,6 +7,7 @@ use native.Mathlib.Omega.{arith}
 use lib.ListN.{length, drop}
 use Rattle.tables.specs.Frames.{Frame, opens, gives, ends, malformed, framesOf}
 use Rattle.tables.specs.Heads.{lineAt, sound}
+use Rattle.tables.proofs.Judging.{fault-some}
 use Rattle.reading.specs.Reader.{inPlace}
 use Rattle.tables.specs.declared.frames.Line.the-variants.{Gives}
 use Rattle.tables.proofs.Heads.{framed}
@@ -19,7 +20,7 @@ placed-sound [] n a i q = refl
 placed-sound (opens b ws ∷ fs) n a i q = placed-sound fs (n + 1) (a + 1) 0 (open-on n a i b ws fs q)
 placed-sound (gives b ws ∷ fs) n a i q = placed-sound fs (n + 1) a (i + 1) (give-on n a i b ws fs q)
 placed-sound (ends ∷ fs) n a i q = refl
-placed-sound (malformed ∷ fs) n a i q = let z = q .placed in absurd (omega arith)
+placed-sound (malformed w ∷ fs) n a i q = absurd (fault-some w (q .placed))
 
 -- after a row's line too
 pub sound-next : (text : List ℕ) (p : ℕ) → p ≤ length text → (b : ℕ) → lineAt text p ≡ Gives b → sound (framesOf (drop p text)) ≡ true

@@ -1,4 +1,4 @@
--- The reader of frames: replies 2 and 3 with their line, then 4 to 7, and the table's words. Assumes nothing.
+-- The reader of frames: replies 2, 18, 19 and 3 with their line, then 4 to 7, and the table's words. Assumes nothing.
 use mathlib.Core.Bool.{Bool, true, false, not, _&&_}
 use mathlib.Core.List.{List, [], _∷_}
 use Prim.Native.Nat.{ℕ, zero, suc, _+_, _-_}
@@ -6,6 +6,7 @@ use lib.Dec.{ltb, leb, eqb}
 use lib.ListN.{getD, set, replicate}
 use lib.Seq.{sets}
 use Rattle.tables.specs.Basics.{first, _⇒_, Rule}
+use Rattle.tables.specs.Faults.{faultReply}
 use Rattle.tables.specs.Frames.{Frame, opens, gives, ends, malformed}
 use Rattle.tables.specs.Layout.{rowOf, agentsPlace, countPlace, startPlace, rowPlace, tableWords}
 use Rattle.tables.specs.Rows.{rowReply}
@@ -68,10 +69,10 @@ endRules a i = noAgent a ∷ noRows a i ∷ []
 abbrev pub toldBy : List Rule → ℕ → Told
 toldBy rs n = elim (first rs) [ zero ↦ told 0 0 | suc r ↦ told (suc r) n ]
 
--- 2 and 3. Line n is next, a agents were opened, and the last of them has i rows so far.
+-- 2, 18, 19 and 3 ("all before 3 on one line"). Line n is next, a agents were opened, and the last of them has i rows so far.
 unfoldable pub inPlace : (n a i : ℕ) → List Frame → Told
 inPlace n a i [] = toldBy (noEnd [] ∷ []) n
-inPlace n a i (malformed ∷ fs) = told 2 n
+inPlace n a i (malformed w ∷ fs) = told (faultReply w) n
 inPlace n a i (opens b ws ∷ fs) =
     elim (first (openingRules b a i)) [ zero ↦ inPlace (n + 1) (a + 1) 0 fs | suc r ↦ told (suc r) n ]
 inPlace n a i (gives b ws ∷ fs) =
@@ -85,7 +86,7 @@ rowsNext [] = 0
 rowsNext (opens b ws ∷ fs) = 0
 rowsNext (gives b ws ∷ fs) = suc (rowsNext fs)
 rowsNext (ends ∷ fs) = 0
-rowsNext (malformed ∷ fs) = 0
+rowsNext (malformed w ∷ fs) = 0
 
 -- the row whose four words a frame gives
 abbrev pub rowIn : List ℕ → Row
@@ -101,7 +102,7 @@ rowsGood n c i e l (gives b ws ∷ fs) =
       | suc r ↦ told (suc r) n
     ]
 rowsGood n c i e l (ends ∷ fs) = told 0 0
-rowsGood n c i e l (malformed ∷ fs) = told 0 0
+rowsGood n c i e l (malformed w ∷ fs) = told 0 0
 
 -- "First all lines are read for 2 and 3 .. Then rows are taken in order for 4, 5, 6, 7."
 unfoldable pub framesReply : List Frame → Told
@@ -113,7 +114,7 @@ loaded tb a i [] = tb
 loaded tb a i (opens b ws ∷ fs) = loaded (sets (set tb agentsPlace (a + 1)) (startPlace a) ws) (a + 1) 0 fs
 loaded tb a i (gives b ws ∷ fs) = loaded (sets (set tb (countPlace (a - 1)) (i + 1)) (rowPlace (a - 1) i) ws) a (i + 1) fs
 loaded tb a i (ends ∷ fs) = tb
-loaded tb a i (malformed ∷ fs) = tb
+loaded tb a i (malformed w ∷ fs) = tb
 
 -- the 2,129 words of a table that was read: "On success the unused words of the table are set to 0"
 unfoldable pub tableOf : List Frame → List ℕ

@@ -1,13 +1,13 @@
-// Replies 2 and 3: the lines of a text in their places.
+// Replies 2, 18, 19 and 3: the lines of a text, and whether they are in their places.
 use crate::Told;
 use tables::frames::END_BYTES;
 use tables::frames::FRAME_BYTES;
 use tables::frames::Line;
 use tables::frames::line_at;
+use tables::frames::line_reply;
 use tables::layout::MOST_AGENTS;
 use tables::layout::MOST_ROWS;
 use tables::replies::ACCEPTED;
-use tables::replies::MALFORMED;
 use tables::replies::OUT_OF_PLACE;
 ghost use mathlib.Core.Path.{_≡_};
 ghost use lib.Dec.{eqb};
@@ -44,7 +44,7 @@ fn may_give(b: u32, a: u32, i: u32) -> bool
     (i as usize) < MOST_ROWS
 }
 
-// Replies 2 and 3, or 0. At most MOST_AGENTS of MOST_ROWS rows are passed, so the lines can be counted.
+// Replies 2, 18, 19 and 3, or 0. Only a line that is refused is judged, which looks at all of it. At most MOST_AGENTS of MOST_ROWS rows are passed, so the lines can be counted.
 pub fn in_place(text: &[u8]) -> Told
     ensures { λ r. ⌜ r ≡ inPlace 1 0 0 (framesOf (now (text .entry))) ⌝ }
 {
@@ -98,7 +98,7 @@ pub fn in_place(text: &[u8]) -> Told
             }
             Line::Malformed => {
                 return Told {
-                    reply: MALFORMED,
+                    reply: line_reply(text, p),
                     line: n,
                 };
             }

@@ -2,48 +2,73 @@
 use mathlib.Core.Path.{_≡_, refl, sym, ap, _∙_}
 use mathlib.Core.Bool.{Bool, true, false, cond}
 use mathlib.Core.List.{List, [], _∷_, _++_, map}
-use Prim.Native.Nat.{ℕ, zero, suc, _+_, _-_, _≤_, _<_, min}
+use mathlib.Core.Logic.{_⊎_, inl, inr}
+use Prim.Native.Nat.{ℕ, _+_, _*_, _-_, _≤_, _<_, min}
 use native.Mathlib.Omega.{arith}
 use lib.Dec.{eqb}
 use lib.ListN.{length, take, drop, length-drop, length-take, drop-of-length-le}
 use lib.Seq.{take-take, take-at, drop-drop}
-use Rattle.tables.specs.Lines.{same, endLine, lines, allHex, number, field, digitsLine}
-use Rattle.tables.specs.Frames.{Frame, opens, gives, ends, malformed, fourWords, frameOf, framesOf}
-use Rattle.tables.specs.Heads.{endAt, digitsAt, wordsAt, headLine, lineAt}
+use Rattle.tables.specs.Lines.{newline, same, endLine, lines, hexDigit, allHex, field, digitsLine}
+use Rattle.tables.specs.Faults.{beginsWith, judgeKind, judge}
+use Rattle.tables.specs.Frames.{Frame, opens, gives, ends, malformed, fourWords, tableLines, frameOf, framesOf}
+use Rattle.tables.specs.Heads.{endAt, digitsAt, lineLength, lineFrom, wordsAt, headLine, lineAt}
+use Rattle.tables.specs.declared.faults.Fault.{Fault}
+use Rattle.tables.specs.declared.faults.Fault.the-variants.{Length, FirstByte}
+use Rattle.tables.specs.declared.faults.Judged.{Judged}
+use Rattle.tables.specs.declared.faults.Judged.the-variants.{Sound, Faulty}
 use Rattle.tables.specs.declared.frames.Line.{Line}
 use Rattle.tables.specs.declared.frames.Line.the-variants.{Opens, Gives, Ends, Malformed}
-use Rattle.tables.proofs.Newlines.{joined, joined-lines, line-hex, line-length, lines-digits, lines-end}
-use Rattle.tables.proofs.Lines.{same-eq, same-self, other-length, hex-part}
+use Rattle.tables.proofs.Newlines.{joined, joined-lines, line-hex, line-end, line-length, lines-digits, lines-end}
+use Rattle.tables.proofs.Lines.{same-eq, same-self, other-length, hex-at, hex-part, hex-fifteen, two-digits, field-cut, field-from}
+use Rattle.tables.proofs.FirstLine.{first-line}
+use Rattle.tables.proofs.Judging.{Among, judge-digits, sound-among}
 
 not-both : _≡_ {A = Bool} true false → ⊥
 not-both e = let z : _≡_ {A = ℕ} 0 1 = cc in omega arith
 
-cut : {A : Type 0} (n m k : ℕ) (l : List A) → m + n ≤ k → take n (drop m (take k l)) ≡ take n (drop m l)
-cut n zero k l h = take-take n k l (omega arith)
-cut n (suc m) zero l h = absurd (omega arith)
-cut n (suc m) (suc k) [] h = refl
-cut n (suc m) (suc k) (x ∷ l) h = cut n m k l (omega arith)
+-- ---- a table's line by what it is
 
-field-cut : (l : List ℕ) (n i k : ℕ) → i + k ≤ n → field (take n l) i k ≡ field l i k
-unfolding field
-field-cut l n i k h = ap (number 0) (cut k i n l h)
+-- a line of 36 digits by its first byte: what is wrong with it where that is none of a row's or an agent's
+abbrev otherKind : ℕ → Fault
+otherKind k = cond (eqb k 0xFF) Length FirstByte
 
--- a field of k digits at place q, which is digit i of the line at place p
-pub field-from : (text : List ℕ) (p q i k : ℕ) → q ≡ p + i → field text q k ≡ field (drop p text) i k
-unfolding field
-field-from text p q i k e = ap (λ (l : List ℕ). number 0 (take k l)) (ap (λ (n : ℕ). drop n text) e ∙ sym (drop-drop i p text))
-
--- a line of 36 digits by its first byte
 abbrev kindFrame : ℕ → ℕ → List ℕ → Frame
-kindFrame k a ws = cond (eqb k 0) (opens a ws) (cond (eqb k 1) (gives a ws) malformed)
+kindFrame k a ws = cond (eqb k 0) (opens a ws) (cond (eqb k 1) (gives a ws) (malformed (otherKind k)))
+
+kind-judged : (l : List ℕ) → digitsLine 36 l ≡ true
+    → judge tableLines l ≡ cond (eqb (field l 0 2) 0) Sound (cond (eqb (field l 0 2) 1) Sound (Faulty (otherKind (field l 0 2))))
+unfolding judgeKind beginsWith
+kind-judged l h = judge-digits tableLines l 36 h ∙ rw (line-length 36 l h) (go (eqb (field l 0 2) 0xFF))
+  where
+    go : (f : Bool) → cond (eqb (field l 0 2) 0) Sound (cond (eqb (field l 0 2) 1) Sound (cond f (Faulty Length) (Faulty FirstByte)))
+        ≡ cond (eqb (field l 0 2) 0) Sound (cond (eqb (field l 0 2) 1) Sound (Faulty (cond f Length FirstByte)))
+    go true = refl
+    go false = refl
+
+line-frame : (l : List ℕ) → digitsLine 36 l ≡ true → frameOf l ≡ kindFrame (field l 0 2) (field l 2 2) (fourWords l)
+unfolding frameOf
+line-frame l h =
+    let n : length l ≡ 3 → ⊥ = λ e. let w = line-length 36 l h in absurd (omega arith) in
+    rw (other-length l endLine n, kind-judged l h) (go (eqb (field l 0 2) 0) (eqb (field l 0 2) 1))
+  where
+    a : ℕ
+    a = field l 2 2
+
+    go : (z o : Bool)
+        → elim (cond z Sound (cond o Sound (Faulty (otherKind (field l 0 2))))) as (λ _. Frame) [
+          | Sound ↦ cond z (opens (field l 2 2) (fourWords l)) (gives (field l 2 2) (fourWords l))
+          | Faulty w ↦ malformed w
+        ]
+        ≡ cond z (opens (field l 2 2) (fourWords l)) (cond o (gives (field l 2 2) (fourWords l)) (malformed (otherKind (field l 0 2))))
+    go true o = refl
+    go false true = refl
+    go false false = refl
 
 digits-frame : (s : List ℕ) → digitsLine 36 (take 37 s) ≡ true → frameOf (take 37 s) ≡ kindFrame (field s 0 2) (field s 2 2) (fourWords s)
-unfolding frameOf fourWords
+unfolding fourWords
 digits-frame s h =
-    let n : length (take 37 s) ≡ 3 → ⊥ = λ e. let w = line-length 36 (take 37 s) h in absurd (omega arith) in
     rw (
-      other-length (take 37 s) endLine n,
-      h,
+      line-frame (take 37 s) h,
       field-cut s 37 0 2 (omega arith),
       field-cut s 37 2 2 (omega arith),
       field-cut s 37 4 8 (omega arith),
@@ -84,10 +109,62 @@ module _ (text : List ℕ) (p : ℕ) where
       none [] e = refl
       none (l ∷ ls) e = cc
 
--- neither an end line nor 36 digits: the line is malformed
-neither : (s l : List ℕ) (ls : List (List ℕ)) → lines s ≡ l ∷ ls → same (take 3 s) endLine ≡ false → digitsLine 36 (take 37 s) ≡ false → frameOf l ≡ malformed
-unfolding frameOf joined
-neither s l ls e h k = rw (no-end (same l endLine) refl, no-digits (digitsLine 36 l) refl)
+-- FF and no more is the end line
+ff-end : (l : List ℕ) → digitsLine 2 l ≡ true → field l 0 2 ≡ 0xFF → same l endLine ≡ true
+ff-end [] h e = let z = line-length 2 [] h in absurd (omega arith)
+ff-end (a ∷ []) h e = let z = line-length 2 (a ∷ []) h in absurd (omega arith)
+ff-end (a ∷ b ∷ l) h e =
+    let s = a ∷ b ∷ l in
+    let n = line-length 2 s h in
+    let x : hexDigit a < 16 = hex-at s 2 0 (line-hex 2 s h) (omega arith) (omega arith) in
+    let y : hexDigit b < 16 = hex-at s 2 1 (line-hex 2 s h) (omega arith) (omega arith) in
+    let t : field s 0 2 ≡ 16 * hexDigit a + hexDigit b = two-digits s 0 (omega arith) in
+    let f : hexDigit a ≡ 15 = omega arith in
+    let g : hexDigit b ≡ 15 = omega arith in
+    let r : l ≡ newline ∷ [] = line-end 2 s h in
+    rw (hex-fifteen a f, hex-fifteen b g, r) (same-self endLine)
+
+-- a sound line of a table that is not its end line is 36 digits
+sound-digits : (l : List ℕ) → same l endLine ≡ false → judge tableLines l ≡ Sound → digitsLine 36 l ≡ true
+sound-digits l h e = go (sound-among tableLines l e)
+  where
+    go : Among tableLines l → digitsLine 36 l ≡ true
+    go (inl w) = w .0
+    go (inr (inl w)) = w .0
+    go (inr (inr (inl w))) = absurd (not-both (sym (ff-end l (w .0) (w .1)) ∙ h))
+    go (inr (inr (inr w))) = absurd w
+
+-- what a frame tells of its line
+abbrev pub Tells : List ℕ → Frame → Type 0
+Tells l (opens b ws) = (same l endLine ≡ false) × (digitsLine 36 l ≡ true) × (ws ≡ fourWords l)
+Tells l (gives b ws) = (same l endLine ≡ false) × (digitsLine 36 l ≡ true) × (ws ≡ fourWords l)
+Tells l ends = same l endLine ≡ true
+Tells l (malformed w) = judge tableLines l ≡ Faulty w
+
+pub tells : (l : List ℕ) → Tells l (frameOf l)
+unfolding frameOf
+tells l = go (same l endLine) refl (judge tableLines l) refl (eqb (field l 0 2) 0)
+  where
+    go : (b : Bool) → same l endLine ≡ b → (j : Judged) → judge tableLines l ≡ j → (z : Bool)
+        → Tells l (cond b ends (elim j as (λ _. Frame) [
+          | Sound ↦ cond z (opens (field l 2 2) (fourWords l)) (gives (field l 2 2) (fourWords l))
+          | Faulty w ↦ malformed w
+        ]))
+    go true h j q z = h
+    go false h Sound q true = (h, sound-digits l h q, refl)
+    go false h Sound q false = (h, sound-digits l h q, refl)
+    go false h (Faulty w) q z = q
+
+-- the frame of a line with a fault
+pub record Faulted (l : List ℕ) : Type 0 where
+  pub fault : Fault
+  pub judged : judge tableLines l ≡ Faulty fault
+  pub frame : frameOf l ≡ malformed fault
+
+-- neither an end line nor 36 digits stands at the head of a text
+neither : (s l : List ℕ) (ls : List (List ℕ)) → lines s ≡ l ∷ ls → same (take 3 s) endLine ≡ false → digitsLine 36 (take 37 s) ≡ false → Faulted l
+unfolding joined
+neither s l ls e h k = go (frameOf l) refl (tells l)
   where
     whole : s ≡ l ++ joined ls
     whole = sym (joined-lines s) ∙ ap joined e
@@ -104,6 +181,12 @@ neither s l ls e h k = rw (no-end (same l endLine) refl, no-digits (digitsLine 3
         sym (ap (digitsLine 36) f ∙ q) ∙ k
     no-digits false q = refl
 
+    go : (f : Frame) → frameOf l ≡ f → Tells l f → Faulted l
+    go (opens b ws) q t = absurd (not-both (sym (t .1) ∙ no-digits (digitsLine 36 l) refl))
+    go (gives b ws) q t = absurd (not-both (sym (t .1) ∙ no-digits (digitsLine 36 l) refl))
+    go ends q t = absurd (not-both (sym t ∙ no-end (same l endLine) refl))
+    go (malformed w) q t = record { fault = w; judged = t; frame = q }
+
 abbrev pub kindLine : ℕ → ℕ → Line
 kindLine k a = cond (eqb k 0) (Opens a) (cond (eqb k 1) (Gives a) Malformed)
 
@@ -111,7 +194,7 @@ head-kind : (k a : ℕ) (ws : List ℕ) (fs : List Frame) → headLine (kindFram
 unfolding headLine
 head-kind k a ws fs = go (eqb k 0) (eqb k 1)
   where
-    go : (z o : Bool) → headLine (cond z (opens a ws) (cond o (gives a ws) malformed) ∷ fs) ≡ cond z (Opens a) (cond o (Gives a) Malformed)
+    go : (z o : Bool) → headLine (cond z (opens a ws) (cond o (gives a ws) (malformed (otherKind k))) ∷ fs) ≡ cond z (Opens a) (cond o (Gives a) Malformed)
     go true o = refl
     go false true = refl
     go false false = refl
@@ -134,7 +217,27 @@ module _ (text : List ℕ) (p : ℕ) where
     where
       go : (ls : List (List ℕ)) → lines (drop p text) ≡ ls → headLine (map frameOf ls) ≡ Malformed
       go [] e = refl
-      go (l ∷ ls) e = ap (λ (f : Frame). headLine (f ∷ map frameOf ls)) (neither (drop p text) l ls e h k)
+      go (l ∷ ls) e = ap (λ (f : Frame). headLine (f ∷ map frameOf ls)) (neither (drop p text) l ls e h k .frame)
+
+-- what stands at place p where the answer is that the line is malformed
+malformed-head : (l : List ℕ) (fs : List Frame) → headLine (frameOf l ∷ fs) ≡ Malformed → Faulted l
+unfolding headLine
+malformed-head l fs = go (frameOf l) refl (tells l)
+  where
+    go : (f : Frame) → frameOf l ≡ f → Tells l f → headLine (f ∷ fs) ≡ Malformed → Faulted l
+    go (opens b ws) q t e = let y : _≡_ {A = ℕ} 0 1 = cc in absurd (omega arith)
+    go (gives b ws) q t e = let y : _≡_ {A = ℕ} 0 1 = cc in absurd (omega arith)
+    go ends q t e = let y : _≡_ {A = ℕ} 0 1 = cc in absurd (omega arith)
+    go (malformed w) q t e = record { fault = w; judged = t; frame = q }
+
+module _ (text : List ℕ) (p : ℕ) (h : p < length text) where
+  pub first-frame : framesOf (drop p text) ≡ frameOf (lineFrom text p) ∷ framesOf (drop (lineLength (drop p text)) (drop p text))
+  unfolding framesOf
+  first-frame = let k : 0 < length (drop p text) = simp length-drop (omega arith) in ap (map frameOf) (first-line (drop p text) k)
+
+  pub faulted-at : lineAt text p ≡ Malformed → Faulted (lineFrom text p)
+  unfolding lineAt
+  faulted-at e = malformed-head (lineFrom text p) _ (ap headLine (sym first-frame) ∙ e)
 
 -- ---- a line of n digits at place p: its room, its digits, and what reading a field of it asks
 
@@ -168,19 +271,21 @@ full (Gives a) = true
 full Ends = false
 full Malformed = false
 
+-- its frame (the others have no words)
 abbrev pub frameWith : Line → List ℕ → Frame
 frameWith (Opens a) ws = opens a ws
 frameWith (Gives a) ws = gives a ws
 frameWith Ends ws = ends
-frameWith Malformed ws = malformed
+frameWith Malformed ws = ends
 
-kind-frame : (k a : ℕ) (ws : List ℕ) → kindFrame k a ws ≡ frameWith (kindLine k a) ws
+kind-frame : (k a : ℕ) (ws : List ℕ) → full (kindLine k a) ≡ true → kindFrame k a ws ≡ frameWith (kindLine k a) ws
 kind-frame k a ws = go (eqb k 0) (eqb k 1)
   where
-    go : (z o : Bool) → cond z (opens a ws) (cond o (gives a ws) malformed) ≡ frameWith (cond z (Opens a) (cond o (Gives a) Malformed)) ws
-    go true o = refl
-    go false true = refl
-    go false false = refl
+    go : (z o : Bool) → full (cond z (Opens a) (cond o (Gives a) Malformed)) ≡ true
+        → cond z (opens a ws) (cond o (gives a ws) (malformed (otherKind k))) ≡ frameWith (cond z (Opens a) (cond o (Gives a) Malformed)) ws
+    go true o q = refl
+    go false true q = refl
+    go false false q = absurd (not-both (sym q))
 
 module _ (text : List ℕ) (p : ℕ) where
   pub framed : p ≤ length text → (ln : Line) → lineAt text p ≡ ln → full ln ≡ true → Framed text p (frameWith ln (wordsAt text p))
@@ -198,7 +303,7 @@ module _ (text : List ℕ) (p : ℕ) where
                 frames-digits text p r
                 ∙ ap
                 (λ (f : Frame). f ∷ framesOf (drop (p + 37) text))
-                (kind-frame (field text p 2) (field text (p + 2) 2) (wordsAt text p)
+                (kind-frame (field text p 2) (field text (p + 2) 2) (wordsAt text p) (ap full (sym (line-digits text p r) ∙ e) ∙ k)
                 ∙ ap (λ (l : Line). frameWith l (wordsAt text p)) (sym (line-digits text p r) ∙ e));
             room = digits-room 36 text p r i;
             digits = r;

@@ -7,6 +7,8 @@ pub mod Loops
 pub mod Good
 pub mod Lines
 pub mod Newlines
+pub mod FirstLine
+pub mod Judging
 pub mod Heads
 pub mod Sound
 pub mod Digits

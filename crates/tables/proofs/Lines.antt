@@ -9,9 +9,9 @@ use native.Mathlib.Numerals.{add-one}
 use native.Mathlib.Omega.{arith}
 use lib.Dec.{ltb, leb, eqb, lit<}
 use lib.ListN.{length, take, drop, getD, length-take, length-drop, drop-of-length-le}
-use lib.Seq.{drop-cons, drop-at, take-suc, take-take, length-take-le, getD-drop}
+use lib.Seq.{drop-cons, drop-at, drop-drop, take-suc, take-take, length-take-le, getD-drop}
 use borrow.Author.Tests.{eqb-true, eq-eqb, ltb-true, lt-ltb, leb-true, ne-eqb}
-use Rattle.tables.specs.Lines.{same, newline, hexDigit, allHex, number, digitsLine}
+use Rattle.tables.specs.Lines.{same, newline, hexDigit, allHex, number, field, digitsLine}
 use Rattle.tables.specs.Heads.{digitsAt}
 use Rattle.tables.proofs.Tests.{and-left, and-right}
 use Rattle.tables.proofs.Passed.{and-1, and-2}
@@ -72,6 +72,14 @@ hex-below c h = go (hex-either c h)
     go : ((48 ≤ c) × (c ≤ 57) × (hexDigit c ≡ c - 48)) ⊎ ((65 ≤ c) × (c ≤ 70) × (hexDigit c ≡ c - 55)) → c < 71
     go (inl w) = let u = w .1 in omega arith
     go (inr w) = let u = w .1 in omega arith
+
+-- the digit F
+pub hex-fifteen : (c : ℕ) → hexDigit c ≡ 15 → c ≡ 70
+hex-fifteen c e = go (hex-either c (omega arith))
+  where
+    go : ((48 ≤ c) × (c ≤ 57) × (hexDigit c ≡ c - 48)) ⊎ ((65 ≤ c) × (c ≤ 70) × (hexDigit c ≡ c - 55)) → c ≡ 70
+    go (inl w) = let l = w .0 in let u = w .1 in let d = w .2 in absurd (omega arith)
+    go (inr w) = let l = w .0 in let u = w .1 in let d = w .2 in omega arith
 
 -- the digits 0 and 1
 pub hex-small : (c n : ℕ) → hexDigit c ≡ n → n ≤ 1 → c ≡ 48 + n
@@ -168,10 +176,36 @@ module _ (text : List ℕ) (at k j : ℕ) (h : at + k ≤ length text) (i : j < 
       let n : j + 1 ≤ length (drop at text) = simp length-drop (omega arith) in
       rw (← number-next) (number-fits (drop at text) (j + 1) n (omega arith) (hex-part (drop at text) k 0 (j + 1) e (omega arith)))
 
+-- ---- fields: of two digits, of a part of a line, of a line at a place
+
+pub two-digits : (text : List ℕ) (p : ℕ) → p + 2 ≤ length text → field text p 2 ≡ 16 * hexDigit (getD text p 0) + hexDigit (getD text (p + 1) 0)
+unfolding field number
+two-digits text p r =
+    let e : number 0 (take 1 (drop p text)) ≡ 16 * 0 + hexDigit (getD text (p + 0) 0) = number-next text p 2 0 r (omega arith) in
+    let f : p + 0 ≡ p = omega arith in
+    let g = ap (λ (q : ℕ). hexDigit (getD text q 0)) f in
+    let h = number-next text p 2 1 r (omega arith) in
+    omega arith
+
+cut : (n m k : ℕ) (l : List ℕ) → m + n ≤ k → take n (drop m (take k l)) ≡ take n (drop m l)
+cut n zero k l h = take-take n k l (omega arith)
+cut n (suc m) zero l h = absurd (omega arith)
+cut n (suc m) (suc k) [] h = refl
+cut n (suc m) (suc k) (x ∷ l) h = cut n m k l (omega arith)
+
+pub field-cut : (l : List ℕ) (n i k : ℕ) → i + k ≤ n → field (take n l) i k ≡ field l i k
+unfolding field
+field-cut l n i k h = ap (number 0) (cut k i n l h)
+
+-- a field of k digits at place q, which is digit i of the line at place p
+pub field-from : (text : List ℕ) (p q i k : ℕ) → q ≡ p + i → field text q k ≡ field (drop p text) i k
+unfolding field
+field-from text p q i k e = ap (λ (l : List ℕ). number 0 (take k l)) (ap (λ (n : ℕ). drop n text) e ∙ sym (drop-drop i p text))
+
 -- ---- a line of n digits
 
 -- where there is text enough, it is n digits and then a newline
-digits-line : (n : ℕ) (l : List ℕ) → n < length l → digitsLine n (take (n + 1) l) ≡ (allHex (take n l) && eqb (getD l n 0) newline)
+pub digits-line : (n : ℕ) (l : List ℕ) → n < length l → digitsLine n (take (n + 1) l) ≡ (allHex (take n l) && eqb (getD l n 0) newline)
 unfolding digitsLine same
 digits-line n l h =
     rw (

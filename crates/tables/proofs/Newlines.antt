@@ -21,11 +21,11 @@ unfolding joined
 joined-onto c [] = refl
 joined-onto c (l ∷ ls) = refl
 
-lines-newline : (c : ℕ) (cs : List ℕ) → eqb c newline ≡ true → lines (c ∷ cs) ≡ (c ∷ []) ∷ lines cs
+pub lines-newline : (c : ℕ) (cs : List ℕ) → eqb c newline ≡ true → lines (c ∷ cs) ≡ (c ∷ []) ∷ lines cs
 unfolding lines
 lines-newline c cs e = rw (e, lines)
 
-lines-other : (c : ℕ) (cs : List ℕ) → eqb c newline ≡ false → lines (c ∷ cs) ≡ onto c (lines cs)
+pub lines-other : (c : ℕ) (cs : List ℕ) → eqb c newline ≡ false → lines (c ∷ cs) ≡ onto c (lines cs)
 unfolding lines
 lines-other c cs e = rw (e, lines)
 

@@ -13,7 +13,7 @@ use Rattle.tables.specs.Frames.{Frame, opens, gives, ends, malformed, fr
 use Rattle.tables.specs.Heads.{endAt, digitsAt, headLine, lineAt, sound}
 use Rattle.tables.specs.declared.frames.Line.{Line}
 use Rattle.tables.specs.declared.frames.Line.the-variants.{Opens, Gives, Ends, Malformed}
-use Rattle.tables.proofs.Lines.{same-eq, number-next, hex-small}
+use Rattle.tables.proofs.Lines.{same-eq, two-digits, hex-small}
 use Rattle.tables.proofs.Heads.{kindLine, line-digits, framed, ends-at, some-frames}
 
 -- how each line begins
@@ -39,15 +39,6 @@ of-kind k a = go (eqb k 0) refl (eqb k 1) refl
     go false e false f = refl
 
 module _ (text : List ℕ) (p : ℕ) where
-  two-digits : p + 2 ≤ length text → field text p 2 ≡ 16 * hexDigit (getD text p 0) + hexDigit (getD text (p + 1) 0)
-  unfolding field number
-  two-digits r =
-      let e : number 0 (take 1 (drop p text)) ≡ 16 * 0 + hexDigit (getD text (p + 0) 0) = number-next text p 2 0 r (omega arith) in
-      let f : p + 0 ≡ p = omega arith in
-      let g = ap (λ (q : ℕ). hexDigit (getD text q 0)) f in
-      let h = number-next text p 2 1 r (omega arith) in
-      omega arith
-
   kind-begins : (ln : Line) → digitsAt 36 text p ≡ true → lineAt text p ≡ ln → OfKind (field text p 2) (field text (p + 2) 2) ln
   kind-begins ln d e =
       subst (λ (l : Line). OfKind (field text p 2) (field text (p + 2) 2) l) (sym (line-digits text p d) ∙ e) (of-kind (field text p 2) (field text (p + 2) 2))
@@ -62,7 +53,7 @@ module _ (text : List ℕ) (p : ℕ) where
         go (opens b ws ∷ fs) e s k = let z : _≡_ {A = ℕ} 0 1 = cc in omega arith
         go (gives b ws ∷ fs) e s k = let z : _≡_ {A = ℕ} 0 1 = cc in omega arith
         go (ends ∷ fs) e s k = let z : _≡_ {A = ℕ} 0 1 = cc in omega arith
-        go (malformed ∷ fs) e s k = let z : _≡_ {A = ℕ} 0 1 = cc in omega arith
+        go (malformed w ∷ fs) e s k = let z : _≡_ {A = ℕ} 0 1 = cc in omega arith
 
     begins : (ln : Line) → lineAt text p ≡ ln → Begins text p ln
     unfolding endAt
@@ -71,7 +62,7 @@ module _ (text : List ℕ) (p : ℕ) where
         let r : p + 2 ≤ length text = let z = w .room in omega arith in
         let k = kind-begins (Opens b) (w .digits) e in
         let k0 = k .0 in
-        let t = two-digits r in
+        let t = two-digits text p r in
         let x : hexDigit (getD text p 0) ≡ 0 = omega arith in
         let y : hexDigit (getD text (p + 1) 0) ≡ 0 = omega arith in
         (hex-small _ 0 x (omega arith), hex-small _ 0 y (omega arith), w .digits, k .1)
@@ -80,7 +71,7 @@ module _ (text : List ℕ) (p : ℕ) where
         let r : p + 2 ≤ length text = let z = w .room in omega arith in
         let k = kind-begins (Gives b) (w .digits) e in
         let k0 = k .0 in
-        let t = two-digits r in
+        let t = two-digits text p r in
         let x : hexDigit (getD text p 0) ≡ 0 = omega arith in
         let y : hexDigit (getD text (p + 1) 0) ≡ 1 = omega arith in
         (hex-small _ 0 x (omega arith), hex-small _ 1 y (omega arith), w .digits, k .1)

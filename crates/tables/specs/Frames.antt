@@ -3,27 +3,33 @@ use mathlib.Core.Bool.{cond}
 use mathlib.Core.List.{List, [], _∷_, map}
 use Prim.Native.Nat.{ℕ}
 use lib.Dec.{eqb}
-use Rattle.tables.specs.Lines.{lines, same, endLine, digitsLine, field}
+use Rattle.tables.specs.Lines.{lines, same, endLine, field}
+use Rattle.tables.specs.Faults.{judge}
+use Rattle.tables.specs.declared.faults.Fault.{Fault}
+use Rattle.tables.specs.declared.faults.Judged.the-variants.{Sound, Faulty}
 
--- an agent's number with its four registers; an agent's number with the four words of a row; the end; neither
+-- an agent's number with its four registers; an agent's number with the four words of a row; the end; a line with a fault
 pub data Frame : Type 0 where
   opens : ℕ → List ℕ → Frame
   gives : ℕ → List ℕ → Frame
   ends : Frame
-  malformed : Frame
+  malformed : Fault → Frame
 
 -- the four words after the first byte and the agent: registers, or code word (op, x, y, n), k, early and late
 unfoldable pub fourWords : List ℕ → List ℕ
 fourWords l = field l 4 8 ∷ field l 12 8 ∷ field l 20 8 ∷ field l 28 8 ∷ []
 
--- "malformed (2) when it lacks its newline, has another character, a first byte other than these, or a length other than 36, 36 or 2 digits"
+-- 01: "a first byte other than these, or a length other than 36, 36 or 2 digits": the first bytes of a table's lines, each followed by the digits of its line
+abbrev pub tableLines : List ℕ
+tableLines = 0x00 ∷ 36 ∷ 0x01 ∷ 36 ∷ 0xFF ∷ 2 ∷ []
+
 unfoldable pub frameOf : List ℕ → Frame
 frameOf l =
     cond (same l endLine) ends
-    (cond (digitsLine 36 l)
-    (cond (eqb (field l 0 2) 0x00) (opens (field l 2 2) (fourWords l))
-    (cond (eqb (field l 0 2) 0x01) (gives (field l 2 2) (fourWords l)) malformed))
-    malformed)
+    (elim (judge tableLines l) [
+      | Sound ↦ cond (eqb (field l 0 2) 0x00) (opens (field l 2 2) (fourWords l)) (gives (field l 2 2) (fourWords l))
+      | Faulty w ↦ malformed w
+    ])
 
 -- the frames of a text, one to a line
 unfoldable pub framesOf : List ℕ → List Frame

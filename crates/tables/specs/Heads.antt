@@ -2,9 +2,10 @@
 -- the statement of no public call needs them. Assumes nothing.
 use mathlib.Core.Bool.{Bool, true, false}
 use mathlib.Core.List.{List, [], _∷_}
-use Prim.Native.Nat.{ℕ, _+_, _*_}
+use Prim.Native.Nat.{ℕ, suc, _+_, _*_}
+use lib.Dec.{eqb}
 use lib.ListN.{take, drop, getD}
-use Rattle.tables.specs.Lines.{same, endLine, digitsLine}
+use Rattle.tables.specs.Lines.{newline, same, endLine, digitsLine}
 use Rattle.tables.specs.Frames.{Frame, opens, gives, ends, malformed, fourWords, framesOf}
 use Rattle.tables.specs.declared.frames.Line.{Line}
 use Rattle.tables.specs.declared.frames.Line.the-variants.{Opens, Gives, Ends, Malformed}
@@ -17,6 +18,15 @@ endAt text p = same (take 3 (drop p text)) endLine
 unfoldable pub digitsAt : ℕ → List ℕ → ℕ → Bool
 digitsAt n text p = digitsLine n (take (n + 1) (drop p text))
 
+-- how long the first line of a text is, with its newline where it has one
+unfoldable pub lineLength : List ℕ → ℕ
+lineLength [] = 0
+lineLength (c ∷ cs) = elim (eqb c newline) [ true ↦ 1 | false ↦ suc (lineLength cs) ]
+
+-- the line that begins at place p
+abbrev pub lineFrom : List ℕ → ℕ → List ℕ
+lineFrom text p = take (lineLength (drop p text)) (drop p text)
+
 -- the four words of the frame that begins at place p
 abbrev pub wordsAt : List ℕ → ℕ → List ℕ
 wordsAt text p = fourWords (drop p text)
@@ -27,9 +37,9 @@ headLine [] = Malformed
 headLine (opens b ws ∷ fs) = Opens b
 headLine (gives b ws ∷ fs) = Gives b
 headLine (ends ∷ fs) = Ends
-headLine (malformed ∷ fs) = Malformed
+headLine (malformed w ∷ fs) = Malformed
 
--- the line that begins at place p
+-- what the line that begins at place p is
 unfoldable pub lineAt : List ℕ → ℕ → Line
 lineAt text p = headLine (framesOf (drop p text))
 
@@ -39,7 +49,7 @@ sound [] = true
 sound (opens b ws ∷ fs) = sound fs
 sound (gives b ws ∷ fs) = sound fs
 sound (ends ∷ fs) = true
-sound (malformed ∷ fs) = false
+sound (malformed w ∷ fs) = false
 
 -- two bytes and eight bytes from place p as a number, the first the highest
 abbrev pub twoBytes : List ℕ → ℕ → ℕ

@@ -5,6 +5,7 @@ pub mod Family
 pub mod Rows
 pub mod Table
 pub mod Lines
+pub mod Faults
 pub mod Frames
 pub mod Heads
 pub mod Calls

@@ -1,12 +1,15 @@
 // What stands at a place of a text. Lines have fixed widths, so no newline is searched for.
+use crate::faults::judge_line;
+use crate::faults::judged_reply;
 ghost use mathlib.Core.Path.{_≡_};
 ghost use mathlib.Core.Bool.{true, cond};
 ghost use Prim.Native.Nat.{_+_, _≤_, _<_};
 ghost use lib.Dec.{ltb};
 ghost use lib.ListN.{length, take, drop};
 ghost use Rattle.tables.specs.Lines as Lines;
-ghost use Rattle.tables.specs.Frames.{framesOf};
-ghost use Rattle.tables.specs.Heads.{endAt, digitsAt, lineAt, sound, twoBytes, eightBytes};
+ghost use Rattle.tables.specs.Faults.{judgedReply, judge};
+ghost use Rattle.tables.specs.Frames.{tableLines, framesOf};
+ghost use Rattle.tables.specs.Heads.{endAt, digitsAt, lineFrom, lineAt, sound, twoBytes, eightBytes};
 
 // The digits of a line that opens an agent or gives a row, and its bytes, with the newline.
 pub const FRAME_DIGITS: usize = 36;
@@ -22,8 +25,12 @@ pub const SECOND_WORD: usize = 12;
 pub const THIRD_WORD: usize = 20;
 
 pub const FOURTH_WORD: usize = 28;
-// The bytes of the end line.
-pub const END_BYTES: usize = 3;
+// The digits of the end line, and its bytes.
+const END_DIGITS: usize = 2;
+
+pub const END_BYTES: usize = END_DIGITS + 1;
+// The first bytes of a table's lines, each followed by the digits of its line.
+const TABLE_LINES: [usize; 6] = [0x00, FRAME_DIGITS, 0x01, FRAME_DIGITS, 0xFF, END_DIGITS];
 
 // A line of a table's text: its kind, with the agent's number.
 pub enum Line {
@@ -62,7 +69,7 @@ pub fn is_end(text: &[u8], at: usize) -> bool
 }
 
 // The number that an upper-case hexadecimal digit stands for, 16 for any other byte.
-fn digit(b: u8) -> u32
+pub fn digit(b: u8) -> u32
     ensures { λ r. ⌜ r ≡ Lines.hexDigit b ⌝ }
 {
     match b {
@@ -162,6 +169,14 @@ pub fn line_at(text: &[u8], at: usize) -> Line
         return Line::Gives(field(text, at + AGENT_AT, 2));
     }
     Line::Malformed
+}
+
+// The reply to the line that begins at this place, which is looked at to its end.
+pub fn line_reply(text: &[u8], at: usize) -> u32
+    requires { ⌜ at ≤ length (now text) ⌝ }
+    ensures { λ r. ⌜ r ≡ judgedReply (judge tableLines (lineFrom (now (text .entry)) at)) ⌝ }
+{
+    judged_reply(judge_line(text, at, &TABLE_LINES))
 }
 
 // The line that begins at this place, where no line from here to the end is malformed: two of its bytes tell.

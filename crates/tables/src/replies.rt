@@ -4,7 +4,8 @@ pub const ACCEPTED: u32 = 0;
 // A table or state buffer is too short.
 pub const TOO_SHORT: u32 = 1;
 
-pub const MALFORMED: u32 = 2;
+// A character that is no upper-case hexadecimal digit, or no newline.
+pub const BAD_CHARACTER: u32 = 2;
 
 pub const OUT_OF_PLACE: u32 = 3;
 
@@ -35,3 +36,7 @@ pub const AFTER_LATE: u32 = 15;
 pub const ODD_CHOICES: u32 = 16;
 
 pub const INPUT_TOO_LONG: u32 = 17;
+// A length that the line's first byte does not have.
+pub const BAD_LENGTH: u32 = 18;
+// A first byte that is not known, or none.
+pub const UNKNOWN_FIRST_BYTE: u32 = 19;

@@ -1,108 +1,120 @@
--- Choice lines from a place of a text on: 12 digits and a newline, the fields in them, and the first that is malformed. Assumes nothing.
+-- Choice lines from a place of a text on: 12 digits and a newline, the fields in them, and the first that has a fault. Assumes nothing.
 use mathlib.Core.Path.{_≡_, refl, sym, ap, _∙_}
-use mathlib.Core.Bool.{Bool, true, false}
-use mathlib.Core.List.{List, [], _∷_, _++_}
-use Prim.Native.Nat.{ℕ, zero, suc, _+_, _≤_, _<_}
+use mathlib.Core.Logic.{_⊎_, inl, inr}
+use mathlib.Core.Bool.{true}
+use mathlib.Core.List.{List, [], _∷_}
+use Prim.Native.Nat.{ℕ, _+_, _≤_, _<_}
 use native.Mathlib.Omega.{arith}
-use lib.Dec.{eqb}
-use lib.ListN.{length, take, drop, length-drop, take-append-drop, drop-of-length-le}
-use lib.Seq.{drop-drop, take-take, take-at}
-use Rattle.tables.specs.Lines.{newline, lines, number, field, digitsLine}
-use Rattle.tables.specs.Heads.{digitsAt}
-use Rattle.tables.proofs.Passed.{and-1}
+use lib.ListN.{length, take, drop, length-drop, drop-of-length-le}
+use lib.Seq.{drop-drop, length-take-le}
+use Rattle.tables.specs.Lines.{lines, field, digitsLine}
+use Rattle.tables.specs.Faults.{faultReply, judge}
+use Rattle.tables.specs.Heads.{digitsAt, lineLength, lineFrom}
+use Rattle.tables.specs.declared.faults.Fault.{Fault}
+use Rattle.tables.specs.declared.faults.Judged.{Judged}
+use Rattle.tables.specs.declared.faults.Judged.the-variants.{Sound, Faulty}
+use Rattle.tables.proofs.Lines.{field-cut, field-from}
 use Rattle.tables.proofs.Newlines.{line-length, lines-digits}
-use Rattle.tables.proofs.Heads.{digits-room, field-from}
-use Rattle.traces.specs.Input.{goodChoice, badChoice, choicesIn}
-use Rattle.traces.specs.Places.{lineLength, choiceAt}
-use Rattle.traces.proofs.Places.{first-line}
+use Rattle.tables.proofs.FirstLine.{first-line, line-within}
+use Rattle.tables.proofs.Judging.{fault-some, Among, sound-among}
+use Rattle.tables.proofs.Heads.{digits-room}
+use Rattle.reading.specs.Reader.{told}
+use Rattle.reading.specs.declared.Told.{Told}
+use Rattle.traces.specs.Input.{knownChoice, badChoice, choicesIn}
 
-cut : (n m k : ℕ) (l : List ℕ) → m + n ≤ k → take n (drop m (take k l)) ≡ take n (drop m l)
-cut n zero k l h = take-take n k l (omega arith)
-cut n (suc m) zero l h = absurd (omega arith)
-cut n (suc m) (suc k) [] h = refl
-cut n (suc m) (suc k) (x ∷ l) h = cut n m k l (omega arith)
+-- a choice line is 12 digits
+pub sound-choice : (l : List ℕ) → judge knownChoice l ≡ Sound → digitsLine 12 l ≡ true
+sound-choice l e = go (sound-among knownChoice l e)
+  where
+    go : Among knownChoice l → digitsLine 12 l ≡ true
+    go (inl w) = w .0
+    go (inr w) = absurd w
 
--- ---- a line of 12 digits at a place
+-- ---- what is told of the choice lines, by the first of them
 
-module _ (text : List ℕ) (p : ℕ) (d : digitsAt 12 text p ≡ true) where
-  -- k digits from digit i of the line
-  choice-field : (i k : ℕ) → i + k ≤ 12 → field (take 13 (drop p text)) i k ≡ field text (p + i) k
-  unfolding field
-  choice-field i k h = ap (number 0) (cut k i 13 (drop p text) (omega arith)) ∙ sym (field-from text p (p + i) i k refl)
+module _ (n : ℕ) (l : List ℕ) (ls : List (List ℕ)) where
+  pub bad-sound : judge knownChoice l ≡ Sound → badChoice n (l ∷ ls) ≡ badChoice (n + 1) ls
+  unfolding badChoice
+  bad-sound e = rw (e, badChoice)
 
-  -- whether it is a choice line
-  pub choice-if : choiceAt text p ≡ eqb (field text p 2) 2
-  unfolding choiceAt goodChoice digitsAt
-  choice-if =
-      let e : p + 0 ≡ p = omega arith in
-      let f : field (take 13 (drop p text)) 0 2 ≡ field text p 2 = rw e at (choice-field 0 2 (omega arith)) in
-      rw (d, f)
+  pub bad-faulty : (w : Fault) → judge knownChoice l ≡ Faulty w → badChoice n (l ∷ ls) ≡ told (faultReply w) n
+  unfolding badChoice
+  bad-faulty w e = rw (e, badChoice)
 
-pub choice-not : (text : List ℕ) (p : ℕ) → digitsAt 12 text p ≡ false → choiceAt text p ≡ false
-unfolding choiceAt goodChoice digitsAt
-choice-not text p d = rw d
+  -- where nothing is told, the first is a choice, and nothing is told of the others
+  pub bad-none-head : badChoice n (l ∷ ls) .reply ≡ 0 → (judge knownChoice l ≡ Sound) × (badChoice (n + 1) ls .reply ≡ 0)
+  bad-none-head h = go (judge knownChoice l) refl
+    where
+      go : (j : Judged) → judge knownChoice l ≡ j → (judge knownChoice l ≡ Sound) × (badChoice (n + 1) ls .reply ≡ 0)
+      go Sound e = (e, ap (λ (q : Told). q .reply) (sym (bad-sound e)) ∙ h)
+      go (Faulty w) e = absurd (fault-some w (ap (λ (q : Told). q .reply) (sym (bad-faulty w e)) ∙ h))
+
+-- that nothing is told does not depend on the number of the first line
+pub bad-any : (ls : List (List ℕ)) (n m : ℕ) → badChoice n ls .reply ≡ 0 → badChoice m ls .reply ≡ 0
+unfolding badChoice
+bad-any [] n m h = refl
+bad-any (l ∷ ls) n m h =
+    let s = bad-none-head n l ls h in
+    ap (λ (q : Told). q .reply) (bad-sound m l ls (s .0)) ∙ bad-any ls (n + 1) (m + 1) (s .1)
 
 -- ---- a choice line at a place
 
-module _ (text : List ℕ) (p : ℕ) (h : choiceAt text p ≡ true) where
+abbrev pub IsChoice : List ℕ → ℕ → Type 0
+IsChoice text p = judge knownChoice (lineFrom text p) ≡ Sound
+
+module _ (text : List ℕ) (p : ℕ) (h : IsChoice text p) where
+  choice-line : lineFrom text p ≡ take 13 (drop p text)
+  choice-line =
+      let s = drop p text in
+      let e : lineLength s ≡ 13 = sym (length-take-le (lineLength s) s (line-within s)) ∙ line-length 12 (lineFrom text p) (sound-choice (lineFrom text p) h) in
+      ap (λ (n : ℕ). take n s) e
+
   pub choice-digits : digitsAt 12 text p ≡ true
-  unfolding choiceAt goodChoice digitsAt
-  choice-digits = and-1 (digitsLine 12 (take 13 (drop p text))) (eqb (field (take 13 (drop p text)) 0 2) 2) h
+  unfolding digitsAt
+  choice-digits = ap (digitsLine 12) (sym choice-line) ∙ sound-choice (lineFrom text p) h
 
   pub choice-room : p ≤ length text → p + 13 ≤ length text
   choice-room = digits-room 12 text p choice-digits
 
-  choice-lines : lines (drop p text) ≡ take 13 (drop p text) ∷ lines (drop (p + 13) text)
+  choice-lines : lines (drop p text) ≡ lineFrom text p ∷ lines (drop (p + 13) text)
   unfolding digitsAt
-  choice-lines = lines-digits 12 (drop p text) choice-digits ∙ rw (drop-drop 13 p text)
+  choice-lines =
+      lines-digits 12 (drop p text) choice-digits
+      ∙ ap (λ (l : List ℕ). take 13 (drop p text) ∷ lines l) (drop-drop 13 p text)
+      ∙ ap (λ (l : List ℕ). l ∷ lines (drop (p + 13) text)) (sym choice-line)
 
   pub bad-next : (n : ℕ) → badChoice n (lines (drop p text)) ≡ badChoice (n + 1) (lines (drop (p + 13) text))
-  unfolding badChoice choiceAt
-  bad-next n = rw (choice-lines, h, badChoice)
+  bad-next n = ap (badChoice n) choice-lines ∙ bad-sound n (lineFrom text p) (lines (drop (p + 13) text)) h
+
+  -- k digits from digit i of the line
+  choice-field : (i k : ℕ) → i + k ≤ 12 → field (lineFrom text p) i k ≡ field text (p + i) k
+  choice-field i k j =
+      ap (λ (l : List ℕ). field l i k) choice-line
+      ∙ field-cut (drop p text) 13 i k (omega arith)
+      ∙ sym (field-from text p (p + i) i k refl)
 
   pub choices-next : choicesIn (lines (drop p text)) ≡ field text (p + 2) 2 ∷ field text (p + 4) 8 ∷ choicesIn (lines (drop (p + 13) text))
   unfolding choicesIn
-  choices-next = rw (choice-lines, choice-field text p choice-digits 2 2 (omega arith), choice-field text p choice-digits 4 8 (omega arith))
+  choices-next = rw (choice-lines, choice-field 2 2 (omega arith), choice-field 4 8 (omega arith))
 
--- a line that is none
-module _ (text : List ℕ) (p : ℕ) (i : p < length text) where
-  no-choice : (l r : List ℕ) → drop p text ≡ l ++ r → choiceAt text p ≡ false → goodChoice l ≡ false
-  unfolding choiceAt goodChoice
-  no-choice l r e h = go (goodChoice l) refl
-    where
-      go : (b : Bool) → goodChoice l ≡ b → b ≡ false
-      go true q =
-          let n = line-length 12 l (and-1 (digitsLine 12 l) (eqb (field l 0 2) 2) q) in
-          let f : take 13 (drop p text) ≡ l = ap (take 13) e ∙ take-at l r 13 n in
-          sym (ap goodChoice f ∙ q) ∙ h
-      go false q = refl
+-- ---- a line with a fault at a place, and no line
 
-  pub bad-here : (n : ℕ) → choiceAt text p ≡ false → badChoice n (lines (drop p text)) ≡ n
-  unfolding badChoice
-  bad-here n h =
-      let s = drop p text in
-      let k : 0 < length s = simp length-drop (omega arith) in
-      let m = lineLength s in
-      rw (first-line s k, no-choice (take m s) (drop m s) (sym (take-append-drop m s)) h, badChoice)
+module _ (text : List ℕ) (p : ℕ) where
+  some-line : p < length text → lines (drop p text) ≡ lineFrom text p ∷ lines (drop (lineLength (drop p text)) (drop p text))
+  some-line h = let k : 0 < length (drop p text) = simp length-drop (omega arith) in first-line (drop p text) k
 
-module _ (text : List ℕ) (p : ℕ) (h : length text ≤ p) where
-  pub bad-none : (n : ℕ) → badChoice n (lines (drop p text)) ≡ 0
-  unfolding badChoice lines
-  bad-none n = rw (drop-of-length-le text {i = p} h)
+  pub bad-here : p < length text → (n : ℕ) (w : Fault) → judge knownChoice (lineFrom text p) ≡ Faulty w → badChoice n (lines (drop p text)) ≡ told (faultReply w) n
+  bad-here h n w e = ap (badChoice n) (some-line h) ∙ bad-faulty n (lineFrom text p) _ w e
 
-  pub choices-none : choicesIn (lines (drop p text)) ≡ []
-  unfolding choicesIn lines
-  choices-none = rw (drop-of-length-le text {i = p} h)
+  -- where nothing is told of the lines from here on, a choice line stands here
+  pub good-here : p < length text → (n : ℕ) → badChoice n (lines (drop p text)) .reply ≡ 0 → IsChoice text p
+  good-here h n e = bad-none-head n (lineFrom text p) _ (ap (λ (ls : List (List ℕ)). badChoice n ls .reply) (sym (some-line h)) ∙ e) .0
 
--- where no line from n on is malformed, none is, whatever number the first has
-pub bad-any : (ls : List (List ℕ)) (n m : ℕ) → 0 < n → badChoice n ls ≡ 0 → badChoice m ls ≡ 0
-unfolding badChoice
-bad-any [] n m h e = refl
-bad-any (l ∷ ls) n m h e = go (goodChoice l) refl (λ k. bad-any ls (n + 1) (m + 1) (omega arith) k)
-  where
-    opened : (b : Bool) (n : ℕ) → goodChoice l ≡ b → badChoice n (l ∷ ls) ≡ elim b [ true ↦ badChoice (n + 1) ls | false ↦ n ]
-    opened b n q = rw (q, badChoice)
+  module _ (h : length text ≤ p) where
+    pub bad-none : (n : ℕ) → badChoice n (lines (drop p text)) ≡ told 0 0
+    unfolding badChoice lines
+    bad-none n = rw (drop-of-length-le text {i = p} h)
 
-    go : (b : Bool) → goodChoice l ≡ b → (badChoice (n + 1) ls ≡ 0 → badChoice (m + 1) ls ≡ 0) → badChoice m (l ∷ ls) ≡ 0
-    go true q f = opened true m q ∙ f (sym (opened true n q) ∙ e)
-    go false q f = let z : n ≡ 0 = sym (opened false n q) ∙ e in absurd (omega arith)
+    pub choices-none : choicesIn (lines (drop p text)) ≡ []
+    unfolding choicesIn lines
+    choices-none = rw (drop-of-length-le text {i = p} h)

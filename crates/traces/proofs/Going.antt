@@ -1,6 +1,6 @@
 -- The loop over the choice lines: what is left of the output, put where the step lines end, makes the whole. Assumes nothing.
 use mathlib.Core.Path.{_≡_, refl, sym, ap, _∙_}
-use mathlib.Core.Bool.{Bool, true, false}
+use mathlib.Core.Bool.{true}
 use mathlib.Core.List.{List, _∷_}
 use Prim.Native.Nat.{ℕ, zero, suc, _+_, _*_, _≤_, _<_, zero-le}
 use native.Mathlib.Omega.{arith}
@@ -8,6 +8,7 @@ use lib.ListN.{length, drop}
 use lib.Seq.{sets, length-sets}
 use Rattle.tables.specs.Lines.{lines, field}
 use Rattle.tables.specs.Table.{goodTable}
+use Rattle.reading.specs.declared.Told.{Told}
 use Rattle.choices.specs.declared.Agent.{Agent}
 use Rattle.choices.specs.State.{agentAt, startWords}
 use Rattle.choices.specs.Fit.{fits}
@@ -23,8 +24,8 @@ use Rattle.choices.proofs.After.{agent-four, accepted-length}
 use Rattle.traces.specs.Input.{badChoice, choicesIn}
 use Rattle.traces.specs.Output.{Traced, traced, after, stepLine, lastLine, traceFrom}
 use Rattle.traces.specs.Calls.{TraceOutcome, traceOutcome, longestOutput, written}
-use Rattle.traces.specs.Places.{choiceAt, placed}
-use Rattle.traces.proofs.Choices.{choice-room, bad-next, bad-here, choices-next, choices-none}
+use Rattle.traces.specs.Places.{placed}
+use Rattle.traces.proofs.Choices.{IsChoice, good-here, choice-room, bad-next, choices-next, choices-none}
 use Rattle.traces.proofs.Steps.{stepLine-length, lastLine-length, placed-after, placed-start, trace-go, trace-stop}
 
 -- the choices from a place on, and the whole output
@@ -42,12 +43,12 @@ pub record Going (tb choices out₀ out state : List ℕ) (regs : List (List ℕ
   pub out-long : length out ≡ length out₀
   pub ends : end ≡ 47 * n
   pub fit : fits tb (withRegs state regs) ≡ true
-  pub well : badChoice (n + 1) (lines (drop at choices)) ≡ 0
+  pub well : badChoice (n + 1) (lines (drop at choices)) .reply ≡ 0
   pub few : runFrom tb (withRegs state regs) n (from choices at) .count ≤ 512
   pub rest : placed (traceFrom tb (withRegs state regs) n (from choices at)) end out ≡ placed (whole tb choices) 0 out₀
 
 -- before the first step
-pub begin : (tb choices out state : List ℕ) (regs : List (List ℕ)) → goodTable tb ≡ true → length tb ≡ 2129 → badChoice 1 (lines choices) ≡ 0
+pub begin : (tb choices out state : List ℕ) (regs : List (List ℕ)) → goodTable tb ≡ true → length tb ≡ 2129 → badChoice 1 (lines choices) .reply ≡ 0
     → state ≡ startWords tb → withRegs state regs ≡ state → length regs ≡ 16 → Going tb choices out out state regs 0 0 0
 begin tb choices out state regs good long well e f wide =
     let w : withRegs state regs ≡ startWords tb = f ∙ e in
@@ -87,12 +88,8 @@ module _ (tb choices out₀ out state : List ℕ) (regs : List (List ℕ)) (n at
   none-left h = rw (choices-none choices at h) at (g .rest)
 
   module _ (h : at < length choices) where
-    pub is-choice : choiceAt choices at ≡ true
-    is-choice = go (choiceAt choices at) refl
-      where
-        go : (b : Bool) → choiceAt choices at ≡ b → b ≡ true
-        go true e = refl
-        go false e = let z : n + 1 ≡ 0 = sym (bad-here choices at h (n + 1) e) ∙ g .well in absurd (omega arith)
+    pub is-choice : IsChoice choices at
+    is-choice = good-here choices at h (n + 1) (g .well)
 
     module _ (a t : ℕ) (ea : a ≡ field choices (at + 2) 2) (et : t ≡ field choices (at + 4) 8) where
       next : from choices at ≡ a ∷ t ∷ from choices (at + 13)
@@ -128,7 +125,7 @@ module _ (tb choices out₀ out state : List ℕ) (regs : List (List ℕ)) (n at
               out-long = ap length eo ∙ length-sets out end (stepLine a t s) ∙ g .out-long;
               ends = let k = g .ends in omega arith;
               fit = rw ew (accepted-fits tb (withRegs state regs) good long (g .fit) a t e);
-              well = sym (bad-next choices at is-choice (n + 1)) ∙ g .well;
+              well = ap (λ (q : Told). q .reply) (sym (bad-next choices at is-choice (n + 1))) ∙ g .well;
               few = rw ew (rw counted at (g .few));
               rest = rw (ew, eo) (steps ∙ g .rest);
             }

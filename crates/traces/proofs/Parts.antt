@@ -1,5 +1,5 @@
 -- The output by the parts of the input: its length, its table, its choice lines. Assumes nothing.
-use mathlib.Core.Path.{_≡_, ap, _∙_}
+use mathlib.Core.Path.{_≡_, refl, ap, _∙_}
 use mathlib.Core.List.{List}
 use Prim.Native.Nat.{ℕ, zero, suc, _≤_, _<_}
 use native.Mathlib.Omega.{arith}
@@ -13,7 +13,7 @@ use Rattle.reading.specs.declared.Told.{Told}
 use Rattle.reading.proofs.Outcomes.{read-told, read-table}
 use Rattle.choices.specs.State.{startWords}
 use Rattle.traces.specs.Input.{longestInput, tableText, choiceLines, badChoiceOf, choicesIn}
-use Rattle.traces.specs.Output.{Traced, traced, lastLine, traceFrom, traceChoices, traceTable, traceOf}
+use Rattle.traces.specs.Output.{Traced, traced, lastLine, traceFrom, refusedOr, traceChoices, traceOf}
 
 -- ---- the output, by what comes first
 
@@ -21,17 +21,20 @@ pub trace-long : (input : List ℕ) → longestInput < length input → traceOf 
 unfolding traceOf
 trace-long input h = rw (lt-ltb longestInput (length input) h, traceOf)
 
--- a table with its reply, and then the first malformed choice line
-table-by : (q : Told) (tb input : List ℕ) (r : ℕ) → q .reply ≡ r
-    → traceTable q tb input ≡ elim r [ zero ↦ traceChoices tb input | suc r ↦ traced (suc r) (lastLine (suc r) (q .line)) ]
-unfolding traceTable
-table-by q tb input r h = ap (λ (x : ℕ). elim x as (λ _. Traced) [ zero ↦ traceChoices tb input | suc r ↦ traced (suc r) (lastLine (suc r) (q .line)) ]) h
+-- a refusal that is told, or none
+told-by : (q : Told) (next : Traced) (r : ℕ) → q .reply ≡ r → refusedOr q next ≡ elim r [ zero ↦ next | suc r ↦ traced (suc r) (lastLine (suc r) (q .line)) ]
+unfolding refusedOr
+told-by q next r h = ap (λ (x : ℕ). elim x as (λ _. Traced) [ zero ↦ next | suc r ↦ traced (suc r) (lastLine (suc r) (q .line)) ]) h
 
-choices-by : (tb input : List ℕ) (n : ℕ) → badChoiceOf input ≡ n
-    → traceChoices tb input ≡ elim n [ zero ↦ traceFrom tb (startWords tb) 0 (choicesIn (choiceLines input)) | suc n ↦ traced 2 (lastLine 2 (suc n)) ]
-unfolding traceChoices
-choices-by tb input n h =
-    ap (λ (x : ℕ). elim x as (λ _. Traced) [ zero ↦ traceFrom tb (startWords tb) 0 (choicesIn (choiceLines input)) | suc n ↦ traced 2 (lastLine 2 (suc n)) ]) h
+pub told-none : (q : Told) (next : Traced) → q .reply ≡ 0 → refusedOr q next ≡ next
+told-none q next h = told-by q next 0 h
+
+pub told-some : (q : Told) (next : Traced) → (q .reply ≡ 0 → ⊥) → refusedOr q next ≡ traced (q .reply) (lastLine (q .reply) (q .line))
+told-some q next k = go (q .reply) refl
+  where
+    go : (r : ℕ) → q .reply ≡ r → refusedOr q next ≡ traced r (lastLine r (q .line))
+    go zero e = absurd (k e)
+    go (suc r) e = told-by q next (suc r) e
 
 module _ (input : List ℕ) (short : length input ≤ longestInput) where
   blank : List ℕ
@@ -40,28 +43,30 @@ module _ (input : List ℕ) (short : length input ≤ longestInput) where
   frames : List Frame
   frames = framesOf (tableText input)
 
-  trace-table : traceOf input ≡ traceTable (framesReply frames) (readInto (tableText input) blank .table) input
+  trace-table : traceOf input ≡ refusedOr (framesReply frames) (traceChoices (readInto (tableText input) blank .table) input)
   unfolding traceOf blank frames
   trace-table =
       rw (le-ltb longestInput (length input) short, traceOf)
-      (ap (λ (q : Told). traceTable q (readInto (tableText input) blank .table) input) (read-told (tableText input) blank (omega (arith, length-replicate {A = ℕ} tableWords 0))))
+      (ap (λ (q : Told). refusedOr q (traceChoices (readInto (tableText input) blank .table) input)) (read-told (tableText input) blank (omega (arith, length-replicate {A = ℕ} tableWords 0))))
 
-  pub trace-refused : (r : ℕ) → framesReply (framesOf (tableText input)) .reply ≡ suc r
-      → traceOf input ≡ traced (suc r) (lastLine (suc r) (framesReply (framesOf (tableText input)) .line))
+  pub trace-refused : (framesReply (framesOf (tableText input)) .reply ≡ 0 → ⊥)
+      → traceOf input ≡ traced (framesReply (framesOf (tableText input)) .reply) (lastLine (framesReply (framesOf (tableText input)) .reply) (framesReply (framesOf (tableText input)) .line))
   unfolding frames
-  trace-refused r h = trace-table ∙ table-by (framesReply frames) (readInto (tableText input) blank .table) input (suc r) h
+  trace-refused k = trace-table ∙ told-some (framesReply frames) _ k
 
   module _ (h : framesReply (framesOf (tableText input)) .reply ≡ 0) where
     trace-choices : traceOf input ≡ traceChoices (tableOf (framesOf (tableText input))) input
     unfolding frames blank
     trace-choices =
         trace-table
-        ∙ table-by (framesReply frames) (readInto (tableText input) blank .table) input 0 h
+        ∙ told-none (framesReply frames) _ h
         ∙ ap (λ (tb : List ℕ). traceChoices tb input) (read-table (tableText input) blank (length-replicate {A = ℕ} tableWords 0) h)
 
-    pub trace-malformed : (n : ℕ) → badChoiceOf input ≡ suc n → traceOf input ≡ traced 2 (lastLine 2 (suc n))
-    trace-malformed n e = trace-choices ∙ choices-by (tableOf (framesOf (tableText input))) input (suc n) e
+    pub trace-faulty : (badChoiceOf input .reply ≡ 0 → ⊥) → traceOf input ≡ traced (badChoiceOf input .reply) (lastLine (badChoiceOf input .reply) (badChoiceOf input .line))
+    unfolding traceChoices
+    trace-faulty k = trace-choices ∙ told-some (badChoiceOf input) _ k
 
-    pub trace-steps : badChoiceOf input ≡ 0
+    pub trace-steps : badChoiceOf input .reply ≡ 0
         → traceOf input ≡ traceFrom (tableOf (framesOf (tableText input))) (startWords (tableOf (framesOf (tableText input)))) 0 (choicesIn (choiceLines input))
-    trace-steps e = trace-choices ∙ choices-by (tableOf (framesOf (tableText input))) input 0 e
+    unfolding traceChoices
+    trace-steps e = trace-choices ∙ told-none (badChoiceOf input) _ e

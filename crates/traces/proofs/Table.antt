@@ -1,8 +1,8 @@
--- What the read of the table's text and the search for a malformed choice line say of the output. Assumes nothing.
-use mathlib.Core.Path.{_≡_, refl, sym, ap, _∙_}
+-- What the read of the table's text and the search for a choice line with a fault say of the output. Assumes nothing.
+use mathlib.Core.Path.{_≡_, sym, ap, _∙_}
 use mathlib.Core.Bool.{true}
 use mathlib.Core.List.{List}
-use Prim.Native.Nat.{ℕ, zero, suc, _+_, _≤_}
+use Prim.Native.Nat.{ℕ, _+_, _≤_}
 use native.Mathlib.Omega.{arith}
 use lib.ListN.{length, take, drop}
 use Rattle.tables.specs.Layout.{tableWords}
@@ -18,7 +18,7 @@ use Rattle.choices.specs.State.{startWords}
 use Rattle.traces.specs.Input.{longestInput, tableBytes, tableText, choiceLines, badChoice, badChoiceOf, choicesIn}
 use Rattle.traces.specs.Output.{traced, lastLine, traceFrom, traceOf}
 use Rattle.traces.proofs.Choices.{bad-any}
-use Rattle.traces.proofs.Parts.{trace-refused, trace-malformed, trace-steps}
+use Rattle.traces.proofs.Parts.{trace-refused, trace-faulty, trace-steps}
 
 -- the table's text ends at a place, has n lines, and was read into words that have the length of a table
 pub record Reading (input : List ℕ) (at n : ℕ) (q : Told) (tb : List ℕ) : Type 0 where
@@ -41,14 +41,9 @@ module _ {input : List ℕ} {at n : ℕ} {q : Told} {tb : List ℕ} (r : Reading
       ∙ ap (λ (t : List ℕ). framesReply (framesOf t)) text
 
   pub table-refused : (q .reply ≡ 0 → ⊥) → traceOf input ≡ traced (q .reply) (lastLine (q .reply) (q .line))
-  table-refused k = go (q .reply) refl
-    where
-      go : (m : ℕ) → q .reply ≡ m → traceOf input ≡ traced (q .reply) (lastLine (q .reply) (q .line))
-      go zero e = absurd (k e)
-      go (suc m) e =
-          trace-refused input (r .short) m (ap (λ (x : Told). x .reply) (sym told-is) ∙ e)
-          ∙ ap (λ (l : ℕ). traced (suc m) (lastLine (suc m) l)) (ap (λ (x : Told). x .line) (sym told-is))
-          ∙ ap (λ (j : ℕ). traced j (lastLine j (q .line))) (sym e)
+  table-refused k =
+      trace-refused input (r .short) (λ e. k (ap (λ (x : Told). x .reply) told-is ∙ e))
+      ∙ ap (λ (x : Told). traced (x .reply) (lastLine (x .reply) (x .line))) (sym told-is)
 
   module _ (h : q .reply ≡ 0) where
     accepted : framesReply (framesOf (tableText input)) .reply ≡ 0
@@ -67,21 +62,19 @@ module _ {input : List ℕ} {at n : ℕ} {q : Told} {tb : List ℕ} (r : Reading
     table-words = rw table-is (table-length (framesOf (tableText input)))
 
     -- the first choice line has the number n + 1
-    module _ {bad : ℕ} (b : bad ≡ badChoice (n + 1) (lines (drop at input))) where
-      bad-is : badChoiceOf input ≡ bad
+    module _ {bad : Told} (b : bad ≡ badChoice (n + 1) (lines (drop at input))) where
+      bad-is : bad ≡ badChoiceOf input
       unfolding badChoiceOf choiceLines
       bad-is = rw (b, r .counted, r .place)
 
-      pub choice-malformed : (bad ≡ 0 → ⊥) → traceOf input ≡ traced 2 (lastLine 2 bad)
-      choice-malformed k = go bad refl
-        where
-          go : (m : ℕ) → bad ≡ m → traceOf input ≡ traced 2 (lastLine 2 bad)
-          go zero e = absurd (k e)
-          go (suc m) e = trace-malformed input (r .short) accepted m (bad-is ∙ e) ∙ ap (λ (j : ℕ). traced 2 (lastLine 2 j)) (sym e)
+      pub choice-faulty : (bad .reply ≡ 0 → ⊥) → traceOf input ≡ traced (bad .reply) (lastLine (bad .reply) (bad .line))
+      choice-faulty k =
+          trace-faulty input (r .short) accepted (λ e. k (ap (λ (x : Told). x .reply) bad-is ∙ e))
+          ∙ ap (λ (x : Told). traced (x .reply) (lastLine (x .reply) (x .line))) (sym bad-is)
 
-      pub none-malformed : bad ≡ 0 → badChoice 1 (lines (drop at input)) ≡ 0
-      none-malformed k = bad-any (lines (drop at input)) (n + 1) 1 (omega arith) (sym b ∙ k)
+      pub none-faulty : bad .reply ≡ 0 → badChoice 1 (lines (drop at input)) .reply ≡ 0
+      none-faulty k = bad-any (lines (drop at input)) (n + 1) 1 (ap (λ (x : Told). x .reply) (sym b) ∙ k)
 
-      pub all-steps : bad ≡ 0 → traceOf input ≡ traceFrom tb (startWords tb) 0 (choicesIn (lines (drop at input)))
+      pub all-steps : bad .reply ≡ 0 → traceOf input ≡ traceFrom tb (startWords tb) 0 (choicesIn (lines (drop at input)))
       unfolding choiceLines
-      all-steps k = rw (table-is, r .place) (trace-steps input (r .short) accepted (bad-is ∙ k))
+      all-steps k = rw (table-is, r .place) (trace-steps input (r .short) accepted (ap (λ (x : Told). x .reply) (sym bad-is) ∙ k))

@@ -9,6 +9,7 @@ use Rattle.tables.specs.Basics.{first, every, allBelow, allZero, zeroFrom}
 use Rattle.tables.specs.Layout.{rowOf}
 use Rattle.tables.specs.Rows.{rowReply, wellFormed, fieldsFit, namesOf, within}
 use Rattle.tables.specs.Lines.{lines, same, endLine, hexDigit, allHex, number, field, digitsLine, newline}
+use Rattle.tables.specs.Faults.{faultReply, onlyDigits, beginsWith, judgeKind, judge}
 use Rattle.tables.specs.Frames.{frameOf, framesOf, fourWords}
 use Rattle.reading.specs.Reader.{inPlace, rowsGood, rowsNext, framesReply, loaded, tableOf}
 use Rattle.reading.specs.Calls.{readInto, framesInto}
@@ -17,8 +18,8 @@ use Rattle.choices.specs.Messages.{best, lookAgents, lookRows, look, visible, b
 use Rattle.choices.specs.Effect.{after, receive}
 use Rattle.choices.specs.Fit.{inTime, unfinished}
 use Rattle.choices.specs.Step.{choiceReply, stuck, canGo, accepted, withAgent, withSent}
-use Rattle.traces.specs.Input.{tableBytes, tableText, choiceLines, goodChoice, badChoice, badChoiceOf, choicesIn}
-use Rattle.traces.specs.Output.{hexChar, hexDigits, hexWords, stepLine, lastLine, traceFrom, traceChoices, traceTable, traceOf}
+use Rattle.traces.specs.Input.{tableBytes, tableText, choiceLines, badChoice, badChoiceOf, choicesIn}
+use Rattle.traces.specs.Output.{hexChar, hexDigits, hexWords, stepLine, lastLine, traceFrom, traceChoices, refusedOr, traceOf}
 
 -- a line of k digits
 line : (k m : ℕ) → List ℕ
@@ -44,5 +45,5 @@ output =
     ++ line 8 0xFE000002)
 
 example : T (same (traceOf input .bytes) output)
-unfolding input output line first every same startWords choiceReply stuck canGo inTime unfinished accepted withAgent withSent after receive best lookAgents lookRows look visible beats rowReply wellFormed fieldsFit namesOf within rowOf zeroFrom allZero allBelow readInto framesInto framesReply framesOf frameOf fourWords digitsLine allHex field number hexDigit lines inPlace rowsGood rowsNext loaded tableOf onesIn trailingZeros tableBytes tableText choiceLines goodChoice badChoice badChoiceOf choicesIn hexChar hexDigits hexWords stepLine lastLine traceFrom traceChoices traceTable traceOf
+unfolding input output line first every same startWords choiceReply stuck canGo inTime unfinished accepted withAgent withSent after receive best lookAgents lookRows look visible beats rowReply wellFormed fieldsFit namesOf within rowOf zeroFrom allZero allBelow readInto framesInto framesReply framesOf frameOf fourWords judge judgeKind onlyDigits beginsWith faultReply digitsLine allHex field number hexDigit lines inPlace rowsGood rowsNext loaded tableOf onesIn trailingZeros tableBytes tableText choiceLines badChoice badChoiceOf choicesIn hexChar hexDigits hexWords stepLine lastLine traceFrom traceChoices refusedOr traceOf
 example = tt

@@ -1,10 +1,13 @@
 -- The trace program's input: "a table up to the first `FF` line, then choice lines `02`, agent, time (4 bytes), 12 digits". Assumes nothing.
-use mathlib.Core.Bool.{Bool, true, false, _&&_, cond}
+use mathlib.Core.Bool.{cond}
 use mathlib.Core.List.{List, [], _∷_}
-use Prim.Native.Nat.{ℕ, suc, _+_}
-use lib.Dec.{eqb}
+use Prim.Native.Nat.{ℕ, _+_}
 use lib.ListN.{length, take, drop}
-use Rattle.tables.specs.Lines.{lines, same, endLine, digitsLine, field}
+use Rattle.tables.specs.Lines.{lines, same, endLine, field}
+use Rattle.tables.specs.Faults.{faultReply, judge}
+use Rattle.tables.specs.declared.faults.Judged.the-variants.{Sound, Faulty}
+use Rattle.reading.specs.Reader.{told}
+use Rattle.reading.specs.declared.Told.{Told}
 
 abbrev pub longestInput : ℕ
 longestInput = 65536
@@ -20,16 +23,17 @@ tableText input = take (tableBytes (lines input)) input
 unfoldable pub choiceLines : List ℕ → List (List ℕ)
 choiceLines input = lines (drop (tableBytes (lines input)) input)
 
-unfoldable pub goodChoice : List ℕ → Bool
-goodChoice l = digitsLine 12 l && eqb (field l 0 2) 0x02
+-- "in choice lines only `02` is known": the first byte and the digits of the line
+abbrev pub knownChoice : List ℕ
+knownChoice = 0x02 ∷ 12 ∷ []
 
--- the number of the first malformed choice line, where line n is next; 0 where there is none
-unfoldable pub badChoice : ℕ → List (List ℕ) → ℕ
-badChoice n [] = 0
-badChoice n (l ∷ ls) = elim (goodChoice l) [ true ↦ badChoice (n + 1) ls | false ↦ n ]
+-- what is told of the first choice line that has a fault, where line n is next; 0 where none has
+unfoldable pub badChoice : ℕ → List (List ℕ) → Told
+badChoice n [] = told 0 0
+badChoice n (l ∷ ls) = elim (judge knownChoice l) [ Sound ↦ badChoice (n + 1) ls | Faulty w ↦ told (faultReply w) n ]
 
 -- "its line number in the whole input"
-unfoldable pub badChoiceOf : List ℕ → ℕ
+unfoldable pub badChoiceOf : List ℕ → Told
 badChoiceOf input = badChoice (length (lines (tableText input)) + 1) (choiceLines input)
 
 -- the choices, agent then time

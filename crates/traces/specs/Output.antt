@@ -32,7 +32,7 @@ unfoldable pub stepLine : (a t : ℕ) → Agent → List ℕ
 stepLine a t s =
     hexDigits 2 0x03 ++ (hexDigits 2 a ++ (hexDigits 2 (s .pos) ++ (hexDigits 8 t ++ (hexWords (s .regs) ++ (newline ∷ [])))))
 
--- "then `FE`, reply number (1 byte), and 2 bytes: the line number for 2 to 7, zero for 17, else the count of accepted steps"
+-- "then `FE`, reply number (1 byte), and 2 bytes: the line number for 2 to 7" and, by T-01, 18 and 19, "zero for 17, else the count of accepted steps"
 unfoldable pub lastLine : (reply n : ℕ) → List ℕ
 lastLine r n = hexDigits 2 0xFE ++ (hexDigits 2 r ++ (hexDigits 4 n ++ (newline ∷ [])))
 
@@ -57,21 +57,13 @@ traceFrom tb st n (a ∷ t ∷ cs) =
       | suc r ↦ traced (suc r) (lastLine (suc r) n)
     ]
 
--- with the table accepted: a malformed choice line "is refused with 2 .. before any step"
-unfoldable pub traceChoices : (tb input : List ℕ) → Traced
-traceChoices tb input =
-    elim (badChoiceOf input) [
-      | zero ↦ traceFrom tb (startWords tb) 0 (choicesIn (choiceLines input))
-      | suc n ↦ traced 2 (lastLine 2 (suc n))
-    ]
+-- a refusal with its line, and what comes where there is none
+unfoldable pub refusedOr : Told → Traced → Traced
+refusedOr q next = elim (q .reply) [ zero ↦ next | suc r ↦ traced (suc r) (lastLine (suc r) (q .line)) ]
 
--- what reading the table part of the input replies, and its words
-unfoldable pub traceTable : (told : Told) (tb input : List ℕ) → Traced
-traceTable q tb input =
-    elim (q .reply) [
-      | zero ↦ traceChoices tb input
-      | suc r ↦ traced (suc r) (lastLine (suc r) (q .line))
-    ]
+-- with the table accepted: a choice line with a fault is refused "after the table is accepted and before any step"
+unfoldable pub traceChoices : (tb input : List ℕ) → Traced
+traceChoices tb input = refusedOr (badChoiceOf input) (traceFrom tb (startWords tb) 0 (choicesIn (choiceLines input)))
 
 -- 17, the table's refusal, every choice line, then the steps
 unfoldable pub traceOf : List ℕ → Traced
@@ -80,5 +72,5 @@ traceOf input =
       | true ↦ traced 17 (lastLine 17 0)
       | false ↦
           let q = readInto (tableText input) (replicate tableWords 0) in
-          traceTable (q .told) (q .table) input
+          refusedOr (q .told) (traceChoices (q .table) input)
     ]

@@ -1,16 +1,22 @@
 // The parts of the input: the table's text up to the end line, and the choice lines after it.
+use reading::Told;
+use tables::faults::Judged;
+use tables::faults::fault_reply;
+use tables::faults::judge_line;
 use tables::frames::END_BYTES;
-use tables::frames::field;
-use tables::frames::is_digits_line;
 use tables::frames::is_end;
+use tables::replies::ACCEPTED;
 ghost use mathlib.Core.Path.{_≡_};
 ghost use Prim.Native.Nat.{_+_, _≤_, _<_, _^_};
 ghost use lib.ListN.{length, drop};
 ghost use Rattle.tables.specs.Lines.{lines};
-ghost use Rattle.traces.specs.Input.{longestInput, tableBytes, tableText, badChoice};
-ghost use Rattle.traces.specs.Places.{lineLength, choiceAt};
+ghost use Rattle.tables.specs.Faults.{judge};
+ghost use Rattle.tables.specs.Heads.{lineLength, lineFrom};
+ghost use Rattle.traces.specs.Input.{longestInput, tableBytes, tableText, knownChoice, badChoice};
 
 const CHOICE_DIGITS: usize = 12;
+// The one first byte that a choice line may have, and the digits of the line.
+const CHOICE_LINES: [usize; 2] = [0x02, CHOICE_DIGITS];
 // Where the time stands in a choice line, after the agent.
 pub const TIME_AT: usize = 4;
 // A choice line, with its newline.
@@ -57,30 +63,38 @@ pub fn table_end(input: &[u8]) -> TableEnd
     TableEnd { at, lines: count }
 }
 
-// Whether a choice line stands at this place.
-fn is_choice(text: &[u8], at: usize) -> bool
+// The choice line that begins at this place, judged.
+fn judge_choice(text: &[u8], at: usize) -> Judged
     requires { ⌜ at ≤ length (now text) ⌝ }
-    ensures { λ r. ⌜ r ≡ choiceAt (now (text .entry)) at ⌝ }
+    ensures { λ r. ⌜ r ≡ judge knownChoice (lineFrom (now (text .entry)) at) ⌝ }
 {
-    if !is_digits_line(text, at, CHOICE_DIGITS) {
-        return false;
-    }
-    field(text, at, 2) == 0x02
+    judge_line(text, at, &CHOICE_LINES)
 }
 
-// The number of the first malformed choice line, where the line that begins at this place has the number `line`; 0 where there is none.
-pub fn first_bad_choice(input: &[u8], at: usize, line: u32) -> u32
+// What is told of the first choice line that has a fault, where the line that begins at this place has the number `line`.
+pub fn first_bad_choice(input: &[u8], at: usize, line: u32) -> Told
     requires { ⌜ (at ≤ length (now input)) × (line + length (now input) < 2 ^ 32) ⌝ }
     ensures { λ r. ⌜ r ≡ badChoice line (lines (drop at (now (input .entry)))) ⌝ }
 {
     let mut p = at;
     let mut n = line;
     while p < input.len() {
-        if !is_choice(input, p) {
-            return n;
+        let judged = judge_choice(input, p);
+        match judged {
+            Judged::Sound => {
+                p += CHOICE_BYTES;
+                n += 1;
+            }
+            Judged::Faulty(fault) => {
+                return Told {
+                    reply: fault_reply(fault),
+                    line: n,
+                };
+            }
         }
-        p += CHOICE_BYTES;
-        n += 1;
     }
-    0
+    Told {
+        reply: ACCEPTED,
+        line: 0,
+    }
 }

@@ -11,7 +11,6 @@ use tables::layout::MOST_ROWS;
 use tables::layout::TABLE_WORDS;
 use tables::replies::ACCEPTED;
 use tables::replies::INPUT_TOO_LONG;
-use tables::replies::MALFORMED;
 use tables::replies::TOO_SHORT;
 ghost use mathlib.Core.Path.{_≡_};
 ghost use lib.ListN.{length};
@@ -64,8 +63,8 @@ pub fn trace(input: &[u8], out: &mut [u8]) -> TraceReply
         return finish(out, 0, told.reply, told.line);
     }
     let bad = first_bad_choice(input, at, end.lines + 1);
-    if bad != 0 {
-        return finish(out, 0, MALFORMED, bad);
+    if bad.reply != ACCEPTED {
+        return finish(out, 0, bad.reply, bad.line);
     }
     trace_steps(&input[at..], &table, out)
 }

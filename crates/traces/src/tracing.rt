@@ -46,9 +46,9 @@ fn blank_state() -> [u32; STATE_WORDS]
     [0; STATE_WORDS]
 }
 
-// The steps of the choice lines, none of which is malformed, from the start state of a good table.
+// The steps of the choice lines, none of which has a fault, from the start state of a good table.
 pub fn trace_steps(choices: &[u8], table: &[u32], out: &mut [u8]) -> TraceReply
-    requires { ⌜ (length (now table) ≡ tableWords) × (goodTable (now table) ≡ true) × (badChoice 1 (lines (now choices)) ≡ 0) × (longestOutput ≤ length (now out)) ⌝ }
+    requires { ⌜ (length (now table) ≡ tableWords) × (goodTable (now table) ≡ true) × (badChoice 1 (lines (now choices)) .reply ≡ 0) × (longestOutput ≤ length (now out)) ⌝ }
     ensures { λ r. ⌜ traceOutcome (r .reply) (r .length) (now (out .exit)) ≡ written (traceFrom (now (table .entry)) (startWords (now (table .entry))) 0 (choicesIn (lines (now (choices .entry))))) (now (out .entry)) ⌝ }
 {
     let mut state = blank_state();

@@ -12,7 +12,7 @@ use Rattle.traces.specs.Input.{choicesIn, badChoice}
 use Rattle.traces.specs.Output.{traceFrom}
 use Rattle.traces.proofs.Parts.{trace-long}
 use Rattle.traces.proofs.Whole.{too-short, done, one-line}
-use Rattle.traces.proofs.Table.{Reading, table-refused, table-good, table-words, choice-malformed, none-malformed, all-steps}
+use Rattle.traces.proofs.Table.{Reading, table-refused, table-good, table-words, choice-faulty, none-faulty, all-steps}
 use borrow.Author.Needs.{needs}
 use Rattle.traces.proofs.trace.Statement.{statement}
 use Rattle.traces.proofs.trace.Tie as tie
@@ -79,16 +79,16 @@ same-length-3 c = search needs
 
 returns-4 : tie.Need-returns-4
 returns-4 c =
-    one-line _ _ _ _ _ (c .before .before .before .before .before .before .before .before .before .before .before .before .before .before .before .before .if1 .left) _ _
-    (choice-malformed (reading (c .before .before .before .before .before .before .before .before .before .before)) (c .before .before .before .before .before .before .before .if3 .left) (c .before .before .before .before .before .first-bad-choice .ensures) (λ z. omega arith))
+    one-line _ _ _ _ _ (c .before .before .before .before .before .before .before .before .before .before .before .before .before .before .before .before .before .if1 .left) _ _
+    (choice-faulty (reading (c .before .before .before .before .before .before .before .before .before .before .before)) (c .before .before .before .before .before .before .before .before .if3 .left) (c .before .before .before .before .before .before .first-bad-choice .ensures) (c .before .before .before .before .if4 .taken))
     (c .before .before .finish3 .ensures)
 
 returns-5 : tie.Need-returns-5
 returns-5 c =
-    let tb = c .before .before .before .before .before .before .before .before .before .before .before .before .read .last .1 .0 in
-    done _ _ _ _ _ (c .before .before .before .before .before .before .before .before .before .before .before .before .before .before .before .before .before .before .if1 .left) _
-    (all-steps (reading (c .before .before .before .before .before .before .before .before .before .before .before .before)) (c .before .before .before .before .before .before .before .before .before .if3 .left) (c .before .before .before .before .before .before .before .first-bad-choice .ensures) (c .before .before .before .before .before .before .if4 .left)
-    ∙ ap (λ (l : List ℕ). traceFrom tb (startWords tb) 0 (choicesIn (lines l))) (sym (to-end (c .before .before .before .before .before .before .before .before .before .before .before .before .before .before .before .before .before .before .before .before .before .args .input .now) (c .before .before .before .before .before .before .before .before .before .before .before .before .before .before .before .before .table-end .result .at))))
+    let tb = c .before .before .before .before .before .before .before .before .before .before .before .before .before .read .last .1 .0 in
+    done _ _ _ _ _ (c .before .before .before .before .before .before .before .before .before .before .before .before .before .before .before .before .before .before .before .if1 .left) _
+    (all-steps (reading (c .before .before .before .before .before .before .before .before .before .before .before .before .before)) (c .before .before .before .before .before .before .before .before .before .before .if3 .left) (c .before .before .before .before .before .before .before .before .first-bad-choice .ensures) (c .before .before .before .before .before .before .if4 .left)
+    ∙ ap (λ (l : List ℕ). traceFrom tb (startWords tb) 0 (choicesIn (lines l))) (sym (to-end (c .before .before .before .before .before .before .before .before .before .before .before .before .before .before .before .before .before .before .before .before .before .before .args .input .now) (c .before .before .before .before .before .before .before .before .before .before .before .before .before .before .before .before .before .table-end .result .at))))
     (c .before .before .trace-steps .ensures)
 
 sub-trace-steps : tie.Need-sub-trace-steps
@@ -105,12 +105,12 @@ slice-aggregate-trace-steps c = search needs
 
 trace-steps-requires : tie.Need-trace-steps-requires
 trace-steps-requires c κs =
-    let r = reading (c .before .before .before .before .before .before .before .before .before) in
-    let z = c .before .before .before .before .before .before .if3 .left in (
+    let r = reading (c .before .before .before .before .before .before .before .before .before .before) in
+    let z = c .before .before .before .before .before .before .before .if3 .left in (
       table-words r z,
       table-good r z,
-      ap (λ (l : List ℕ). badChoice 1 (lines l)) (to-end (c .before .before .before .before .before .before .before .before .before .before .before .before .before .before .before .before .before .before .args .input .now) (c .before .before .before .before .before .before .before .before .before .before .before .before .before .table-end .result .at)) ∙ none-malformed r z (c .before .before .before .before .first-bad-choice .ensures) (c .before .before .before .if4 .left),
-      c .before .before .before .before .before .before .before .before .before .before .before .before .before .before .before .if1 .left,
+      ap (λ (l : List ℕ). badChoice 1 (lines l) .reply) (to-end (c .before .before .before .before .before .before .before .before .before .before .before .before .before .before .before .before .before .before .before .args .input .now) (c .before .before .before .before .before .before .before .before .before .before .before .before .before .before .table-end .result .at)) ∙ none-faulty r z (c .before .before .before .before .before .first-bad-choice .ensures) (c .before .before .before .if4 .left),
+      c .before .before .before .before .before .before .before .before .before .before .before .before .before .before .before .before .if1 .left,
     )
 
 same-length-4 : tie.Need-same-length-4

@@ -1,12 +1,12 @@
-use mathlib.Core.Path.{_≡_, refl, sym, _∙_}
-use Prim.Native.Nat.{_+_, _*_, _-_, _≤_}
+use mathlib.Core.Path.{_≡_, refl, sym, ap, _∙_}
+use Prim.Native.Nat.{ℕ, _+_, _*_, _-_, _≤_}
 use native.Mathlib.Omega.{arith}
 use lib.ListN.{length, drop}
 use borrow.Author.Needs.{needs}
 use borrow.Author.Tests.{not-true, not-false}
 use Rattle.tables.specs.Frames.{framesOf}
 use Rattle.tables.specs.Heads.{lineAt}
-use Rattle.reading.specs.Reader.{inPlace}
+use Rattle.reading.specs.Reader.{told, inPlace}
 use Rattle.tables.specs.declared.frames.Line.the-variants.{Opens, Gives}
 use Rattle.tables.proofs.Heads.{framed}
 use Rattle.reading.proofs.Places.{open-room, give-open, give-room, opened, opened-not, given, given-not, ended-early, ended-before, ended-well, broken, stopped}
@@ -159,12 +159,16 @@ returns-5 c =
 enum-told-2 : tie.Need-enum-told-2 Inv-loop μ-loop
 enum-told-2 c = search needs
 
+line-reply-requires : tie.Need-line-reply-requires Inv-loop μ-loop
+line-reply-requires c κs = search needs
+
 returns-6 : tie.Need-returns-6 Inv-loop μ-loop
 returns-6 c =
-    let l = c .before .before .before .before .loop in
-    let g = c .before .before .before .before .before .before .args in
-    let e = sym (c .before .before .line-at .ensures) ∙ c .enum-told2 .given .1 in
-    sym (l .inv .5 ∙ broken (g .text .now) (l .p) (l .inv .0) (l .n) (l .a) (l .i) e (c .before .before .before .loop-test .taken))
+    let l = c .before .before .before .before .before .loop in
+    let g = c .before .before .before .before .before .before .before .args in
+    let e = sym (c .before .before .before .line-at .ensures) ∙ c .before .enum-told2 .given .1 in
+    ap (λ (r : ℕ). told r (l .n)) (c .line-reply .ensures)
+    ∙ sym (l .inv .5 ∙ broken (g .text .now) (l .p) (l .inv .0) (l .n) (l .a) (l .i) e (c .before .before .before .before .loop-test .taken))
 
 returns-7 : tie.Need-returns-7 Inv-loop μ-loop
 returns-7 c =
@@ -203,5 +207,6 @@ in-place-spec =
     returns-4
     returns-5
     enum-told-2
+    line-reply-requires
     returns-6
     returns-7)

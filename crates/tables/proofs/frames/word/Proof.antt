@@ -4,7 +4,8 @@ use native.Mathlib.Omega.{arith}
 use lib.Bits.{and-le-r}
 use borrow.Author.Needs.{needs}
 use Rattle.tables.proofs.Digits.{digitsIn, bytesIn, pairsIn, wordIn, word-number}
-use Rattle.tables.proofs.Heads.{field-from, field-asks}
+use Rattle.tables.proofs.Lines.{field-from}
+use Rattle.tables.proofs.Heads.{field-asks}
 use Rattle.tables.proofs.frames.word.Statement.{statement}
 use Rattle.tables.proofs.frames.word.Tie as tie
 

@@ -5,8 +5,8 @@ use borrow.Author.Needs.{needs}
 use mathlib.Core.Path.{_≡_, refl, _∙_}
 use Prim.Native.Nat.{_+_, _-_, _≤_}
 use lib.ListN.{length, drop}
-use Rattle.traces.specs.Places.{lineLength}
-use Rattle.traces.proofs.Places.{line-stop, line-on, line-none}
+use Rattle.tables.specs.Heads.{lineLength}
+use Rattle.tables.proofs.FirstLine.{line-stop, line-on, line-none}
 use Rattle.traces.proofs.input.next_line.Statement.{statement}
 use Rattle.traces.proofs.input.next_line.Tie as tie
 

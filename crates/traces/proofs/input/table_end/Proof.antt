@@ -9,7 +9,8 @@ use lib.ListN.{length, drop}
 use Rattle.tables.specs.Lines.{lines}
 use Rattle.tables.specs.Heads.{endAt}
 use Rattle.traces.specs.Input.{tableBytes, tableText}
-use Rattle.traces.proofs.Places.{end-bytes, end-count, table-bytes, table-count, nothing-left, line-room, line-past}
+use Rattle.traces.proofs.Places.{end-bytes, end-count, table-bytes, table-count, nothing-left}
+use Rattle.tables.proofs.FirstLine.{line-room, line-past}
 use Rattle.traces.proofs.input.table_end.Statement.{statement}
 use Rattle.traces.proofs.input.table_end.Tie as tie
 

@@ -11,8 +11,7 @@ use Rattle.choices.specs.Step.{choiceReply, accepted}
 use Rattle.choices.specs.Registers.{withRegs}
 use Rattle.tables.proofs.Good.{few}
 use Rattle.choices.proofs.Choosing.{whole-length, reply-whole}
-use Rattle.traces.specs.Places.{choiceAt}
-use Rattle.traces.proofs.Choices.{choice-digits, choice-room}
+use Rattle.traces.proofs.Choices.{IsChoice, choice-digits, choice-room}
 use Rattle.executive.proofs.RunOn.{agent-is, whole-after}
 use Rattle.traces.proofs.Going.{Going, is-choice, room, refused, one-more, on, none-left, all-written, low, begin}
 use Rattle.traces.proofs.tracing.trace_steps.Statement.{statement}
@@ -25,7 +24,7 @@ abbrev μ-loop : tie.MeasureT-loop
 μ-loop choices table out₀ state₀ regs₀ n₀ at₀ end₀ out state regs n at end = length choices - at
 
 -- in a turn: a choice line stands here, whole
-chosen-line : (c : tie.In-loop Inv-loop μ-loop) → choiceAt (c .before .before .before .before .before .before .before .before .before .before .before .args .choices .now) (c .before .loop .at) ≡ true
+chosen-line : (c : tie.In-loop Inv-loop μ-loop) → IsChoice (c .before .before .before .before .before .before .before .before .before .before .before .args .choices .now) (c .before .loop .at)
 chosen-line c = is-choice _ _ _ _ _ _ _ _ _ (c .before .loop .inv) (c .loop-test .taken)
 
 digits : (c : tie.In-loop Inv-loop μ-loop) → digitsAt 12 (c .before .before .before .before .before .before .before .before .before .before .before .args .choices .now) (c .before .loop .at) ≡ true
