@@ -1,6 +1,6 @@
 -- A text that `read` accepts: its words are words of 32 bits, and at the front of an input it is the table's text, whatever follows. Assumes nothing.
 use mathlib.Core.Path.{_≡_, refl, sym, ap, _∙_}
-use mathlib.Core.Bool.{Bool, true, false, cond}
+use mathlib.Core.Bool.{Bool, true, false}
 use mathlib.Core.List.{List, [], _∷_, _++_, map, append-assoc}
 use Prim.Native.Nat.{ℕ, _+_, _≤_, _<_}
 use native.Mathlib.Omega.{arith}
@@ -9,7 +9,7 @@ use lib.ListN.{length, replicate, length-append, length-replicate}
 use lib.Seq.{take-append-seam}
 use Rattle.tables.specs.Basics.{first}
 use Rattle.tables.specs.Layout.{tableWords}
-use Rattle.tables.specs.Lines.{same, endLine, lines, number, field, digitsLine}
+use Rattle.tables.specs.Lines.{same, endLine, lines, field, digitsLine}
 use Rattle.tables.specs.Frames.{Frame, opens, gives, ends, malformed, fourWords, frameOf, framesOf}
 use Rattle.tables.proofs.Judging.{fault-some}
 use Rattle.tables.proofs.Heads.{Tells, tells}

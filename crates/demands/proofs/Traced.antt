@@ -26,7 +26,7 @@ use Rattle.executive.proofs.Fitting.{fits-says}
 use Rattle.executive.proofs.OneByOne.{ran}
 use Rattle.traces.specs.Input.{longestInput, tableText, choiceLines, badChoiceOf, choicesIn}
 use Rattle.traces.specs.Output.{Traced, traced, after, stepLine, lastLine, traceFrom, traceOf}
-use Rattle.traces.specs.Calls.{longestOutput, written, traceInto}
+use Rattle.traces.specs.Calls.{longestOutput, traceInto}
 use Rattle.traces.proofs.Steps.{trace-go, trace-stop}
 use Rattle.reading.proofs.Outcomes.{read-told}
 use Rattle.traces.proofs.Parts.{trace-long, trace-refused, trace-faulty, trace-steps}

@@ -1,17 +1,16 @@
 -- What `read` accepts, `check` accepts. Assumes nothing.
 use mathlib.Core.Path.{_≡_, refl, sym, ap, subst, _∙_}
-use mathlib.Core.Bool.{Bool, true, false, cond}
+use mathlib.Core.Bool.{true}
 use mathlib.Core.List.{List, [], _∷_, _++_, map}
 use Prim.Native.Nat.{ℕ, zero, suc, _+_, _-_, _<_}
 use native.Mathlib.Omega.{arith}
-use lib.Dec.{eqb}
 use lib.ListN.{length, getD, set, take, drop, replicate, length-set, length-append, length-replicate}
 use lib.Seq.{sets, length-sets, take-at}
 use Rattle.tables.specs.Layout.{agentsPlace, countPlace, rowPlace, startPlace, tableWords}
 use Rattle.tables.specs.Basics.{first}
 use Rattle.tables.specs.Rows.{rowReply}
 use Rattle.tables.specs.Table.{goodTable}
-use Rattle.tables.specs.Lines.{same, endLine, digitsLine, field, lines}
+use Rattle.tables.specs.Lines.{lines}
 use Rattle.tables.specs.Frames.{Frame, opens, gives, ends, malformed, fourWords, frameOf, framesOf}
 use Rattle.reading.specs.Reader.{inPlace, rowsNext, rowIn, rowsGood, framesReply, loaded, tableOf}
 use Rattle.tables.specs.Calls.{Checked}

@@ -3,19 +3,18 @@ use mathlib.Core.Path.{_≡_, refl, sym, ap, _∙_}
 use mathlib.Core.Bool.{Bool, true, false, _&&_, cond}
 use mathlib.Core.Logic.{_⊎_, inl, inr, by-cases}
 use mathlib.Core.List.{List, [], _∷_}
-use Prim.Native.Nat.{ℕ, zero, suc, _+_, _-_, _≤_, _<_, zero-le}
+use Prim.Native.Nat.{ℕ, suc, _+_, _-_, _≤_, _<_, zero-le}
 use native.Mathlib.Omega.{arith}
 use native.Mathlib.Decide.{decLt}
 use lib.Dec.{leb, eqb}
-use lib.ListN.{length, take, drop, getD, length-drop, length-take}
+use lib.ListN.{length, take, drop, getD, length-drop}
 use lib.Seq.{drop-cons, getD-drop, getD-take, length-take-le}
 use borrow.Author.Tests.{eqb-true, eq-eqb, ne-eqb, le-leb, lt-leb}
-use Rattle.tables.specs.Lines.{newline, lines, hexDigit, allHex, field, digitsLine}
+use Rattle.tables.specs.Lines.{newline, hexDigit, allHex, field, digitsLine}
 use Rattle.tables.specs.Faults.{faultReply, onlyDigits, beginsWith, judgeKind, judge}
 use Rattle.tables.specs.Heads.{lineLength, lineFrom}
 use Rattle.tables.specs.declared.faults.Fault.{Fault}
 use Rattle.tables.specs.declared.faults.Fault.the-variants.{Character, Length, FirstByte}
-use Rattle.tables.specs.declared.faults.Judged.{Judged}
 use Rattle.tables.specs.declared.faults.Judged.the-variants.{Sound, Faulty}
 use Rattle.tables.proofs.Lines.{hex-go, hex-at, digits-line, field-cut, field-from}
 use Rattle.tables.proofs.Newlines.{line-hex, line-end, line-length, lines-digits}

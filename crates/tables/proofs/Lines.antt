@@ -235,15 +235,3 @@ module _ (n : ℕ) (text : List ℕ) (at : ℕ) where
   unfolding digitsAt
   digits-odd g h e =
       let k : n < length (drop at text) = simp length-drop (omega arith) in digits-line n (drop at text) k ∙ and-left _ _ e
-
-  pub digits-other : at ≤ length text → n < length text - at → (j : ℕ) → j < n → 15 < hexDigit (getD text (at + j) 0) → digitsAt n text at ≡ false
-  unfolding digitsAt
-  digits-other g h j i d =
-      let k : n < length (drop at text) = simp length-drop (omega arith) in
-      digits-line n (drop at text) k ∙ and-left _ _ (none (allHex (take n (drop at text))) refl)
-    where
-      none : (b : Bool) → allHex (take n (drop at text)) ≡ b → b ≡ false
-      none true e =
-          let k : j < length (drop at text) = simp length-drop (omega arith) in
-          let f : hexDigit (getD text (at + j) 0) < 16 = rw getD-drop at (hex-at (drop at text) n j e i k) in absurd (omega arith)
-      none false e = refl

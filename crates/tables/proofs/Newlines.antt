@@ -8,7 +8,6 @@ use lib.Dec.{ltb, eqb}
 use lib.ListN.{length, take, drop, length-drop, take-append-drop}
 use borrow.Author.Tests.{ltb-true, ne-eqb}
 use Rattle.tables.specs.Lines.{same, newline, endLine, onto, lines, hexDigit, allHex, digitsLine}
-use Rattle.tables.specs.Frames.{ends}
 use Rattle.tables.proofs.Passed.{and-1, and-2}
 use Rattle.tables.proofs.Lines.{same-eq}
 

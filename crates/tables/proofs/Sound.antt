@@ -2,13 +2,13 @@
 use mathlib.Core.Path.{_≡_, refl, sym, ap, subst, _∙_}
 use mathlib.Core.Bool.{Bool, true, false, cond}
 use mathlib.Core.List.{List, [], _∷_}
-use Prim.Native.Nat.{ℕ, _+_, _*_, _≤_, _<_}
+use Prim.Native.Nat.{ℕ, _+_, _≤_, _<_}
 use native.Mathlib.Omega.{arith}
 use lib.Dec.{eqb}
 use lib.ListN.{length, take, drop, getD}
 use lib.Seq.{drop-cons}
 use borrow.Author.Tests.{eqb-true}
-use Rattle.tables.specs.Lines.{endLine, number, field, hexDigit}
+use Rattle.tables.specs.Lines.{endLine, field, hexDigit}
 use Rattle.tables.specs.Frames.{Frame, opens, gives, ends, malformed, framesOf}
 use Rattle.tables.specs.Heads.{endAt, digitsAt, headLine, lineAt, sound}
 use Rattle.tables.specs.declared.frames.Line.{Line}

@@ -79,24 +79,6 @@ pub fn digit(b: u8) -> u32
     }
 }
 
-// Whether n digits and a newline stand at this place.
-pub fn is_digits_line(text: &[u8], at: usize, n: usize) -> bool
-    requires { ⌜ at ≤ length (now text) ⌝ }
-    ensures { λ r. ⌜ r ≡ digitsAt n (now (text .entry)) at ⌝ }
-{
-    if text.len() - at <= n {
-        return false;
-    }
-    let mut j = 0;
-    while j < n {
-        if 15 < digit(text[at + j]) {
-            return false;
-        }
-        j += 1;
-    }
-    text[at + n] == b'\n'
-}
-
 // 1 for a byte that is no digit, else 0.
 fn odd(b: u8) -> u8
     ensures { λ r. ⌜ r ≡ cond (ltb (Lines.hexDigit b) 16) 0 1 ⌝ }

@@ -1,14 +1,12 @@
 -- The lines of a text from a place on: the first of them, the table's part, and lines of 12 digits. Assumes nothing.
 use mathlib.Core.Path.{_≡_, refl, sym, ap, _∙_}
 use mathlib.Core.Bool.{Bool, true, false}
-use mathlib.Core.List.{List, [], _∷_, _++_}
-use Prim.Native.Nat.{ℕ, zero, suc, _+_, _-_, _≤_, _<_, zero-le}
+use mathlib.Core.List.{List, _++_}
+use Prim.Native.Nat.{ℕ, _+_, _-_, _≤_, _<_}
 use native.Mathlib.Omega.{arith}
-use lib.Dec.{eqb}
-use lib.ListN.{length, take, drop, getD, length-drop, length-take, take-append-drop, drop-of-length-le}
-use lib.Seq.{drop-cons, drop-drop, take-all}
-use borrow.Author.Tests.{eq-eqb, ne-eqb}
-use Rattle.tables.specs.Lines.{newline, endLine, onto, lines, same}
+use lib.ListN.{length, take, drop, length-drop, length-take, take-append-drop, drop-of-length-le}
+use lib.Seq.{drop-drop}
+use Rattle.tables.specs.Lines.{endLine, lines, same}
 use Rattle.tables.specs.Heads.{endAt, lineLength}
 use Rattle.tables.proofs.Lines.{same-eq, same-self}
 use Rattle.tables.proofs.Newlines.{lines-end}

@@ -1,9 +1,7 @@
 -- 01's example, from input bytes to output bytes. Assumes nothing.
-use mathlib.Core.Bool.{Bool, true, false, _&&_, cond}
 use mathlib.Core.List.{List, [], _∷_, _++_}
 use Prim.Native.Nat.{ℕ}
 use lib.Dec.{T}
-use lib.ListN.{length, replicate}
 use lib.Count.{onesIn, trailingZeros}
 use Rattle.tables.specs.Basics.{first, every, allBelow, allZero, zeroFrom}
 use Rattle.tables.specs.Layout.{rowOf}

@@ -1,7 +1,7 @@
 -- The invariant: the bytes passed are digits. Assumes nothing.
-use mathlib.Core.Path.{_≡_, refl, sym, ap, _∙_}
+use mathlib.Core.Path.{_≡_, sym, _∙_}
 use mathlib.Core.Bool.{true}
-use Prim.Native.Nat.{_+_, _-_, _≤_, _<_}
+use Prim.Native.Nat.{_-_, _≤_}
 use native.Mathlib.Omega.{arith}
 use lib.ListN.{length, take, drop}
 use borrow.Author.Needs.{needs}
@@ -28,12 +28,6 @@ digit-requires c κs = search needs
 shared-slice-read-if2 : tie.Need-shared-slice-read-if2 Inv-loop μ-loop
 shared-slice-read-if2 c = search needs
 
-returns : tie.Need-returns Inv-loop μ-loop
-returns c =
-    let l = c .before .before .before .before .before .before .loop in
-    let d = c .before .before .before .digit .ensures in
-    sym (judged-character _ _ (l .p) (l .inv .0) (l .inv .2) (λ k. (omega arith, c .if2 .taken)) _)
-
 sub-judge-kind : tie.Need-sub-judge-kind Inv-loop μ-loop
 sub-judge-kind c = search needs
 
@@ -47,6 +41,12 @@ returns-2 c =
     let l = c .before .before .before .before .before .before .before .loop in
     c .judge-kind .ensures
     ∙ sym (judged-kind _ _ (l .p) (l .inv .0) (l .inv .2) (c .before .before .before .before .before .before .loop-test .taken) (c .before .if2 .left) _)
+
+returns : tie.Need-returns Inv-loop μ-loop
+returns c =
+    let l = c .before .before .before .before .before .before .loop in
+    let d = c .before .before .before .digit .ensures in
+    sym (judged-character _ _ (l .p) (l .inv .0) (l .inv .2) (λ k. (omega arith, c .if2 .taken)) _)
 
 add-p : tie.Need-add-p Inv-loop μ-loop
 add-p c = search needs

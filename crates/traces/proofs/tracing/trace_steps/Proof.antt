@@ -7,7 +7,7 @@ use mathlib.Core.Bool.{true}
 use Prim.Native.Nat.{_+_, _-_, _≤_, _<_}
 use lib.ListN.{length, length-set}
 use Rattle.tables.proofs.Heads.{field-asks}
-use Rattle.choices.specs.Step.{choiceReply, accepted}
+use Rattle.choices.specs.Step.{choiceReply}
 use Rattle.choices.specs.Registers.{withRegs}
 use Rattle.tables.proofs.Good.{few}
 use Rattle.choices.proofs.Choosing.{whole-length, reply-whole}
