@@ -9,3 +9,4 @@ pub mod Faults
 pub mod Frames
 pub mod Heads
 pub mod Calls
+pub mod Cases

@@ -1,13 +1,14 @@
--- 01's example, from input bytes to output bytes. Assumes nothing.
+-- 01's example, from input bytes to output bytes; and single choice lines, of which T-01 speaks. Assumes nothing.
 use mathlib.Core.List.{List, [], _∷_, _++_}
 use Prim.Native.Nat.{ℕ}
-use lib.Dec.{T}
+use mathlib.Core.Bool.{Bool}
+use lib.Dec.{T, eqb}
 use lib.Count.{onesIn, trailingZeros}
 use Rattle.tables.specs.Basics.{first, every, allBelow, allZero, zeroFrom}
 use Rattle.tables.specs.Layout.{rowOf}
 use Rattle.tables.specs.Rows.{rowReply, wellFormed, fieldsFit, namesOf, within}
 use Rattle.tables.specs.Lines.{lines, same, endLine, hexDigit, allHex, number, field, digitsLine, newline}
-use Rattle.tables.specs.Faults.{faultReply, onlyDigits, beginsWith, judgeKind, judge}
+use Rattle.tables.specs.Faults.{faultReply, judgedReply, onlyDigits, beginsWith, judgeKind, judge}
 use Rattle.tables.specs.Frames.{frameOf, framesOf, fourWords}
 use Rattle.reading.specs.Reader.{inPlace, rowsGood, rowsNext, framesReply, loaded, tableOf}
 use Rattle.reading.specs.Calls.{readInto, framesInto}
@@ -16,7 +17,7 @@ use Rattle.choices.specs.Messages.{best, lookAgents, lookRows, look, visible, b
 use Rattle.choices.specs.Effect.{after, receive}
 use Rattle.choices.specs.Fit.{inTime, unfinished}
 use Rattle.choices.specs.Step.{choiceReply, stuck, canGo, accepted, withAgent, withSent}
-use Rattle.traces.specs.Input.{tableBytes, tableText, choiceLines, badChoice, badChoiceOf, choicesIn}
+use Rattle.traces.specs.Input.{tableBytes, tableText, choiceLines, knownChoice, badChoice, badChoiceOf, choicesIn}
 use Rattle.traces.specs.Output.{hexChar, hexDigits, hexWords, stepLine, lastLine, traceFrom, traceChoices, refusedOr, traceOf}
 
 -- a line of k digits
@@ -45,3 +46,17 @@ output =
 example : T (same (traceOf input .bytes) output)
 unfolding input output line first every same startWords choiceReply stuck canGo inTime unfinished accepted withAgent withSent after receive best lookAgents lookRows look visible beats rowReply wellFormed fieldsFit namesOf within rowOf zeroFrom allZero allBelow readInto framesInto framesReply framesOf frameOf fourWords judge judgeKind onlyDigits beginsWith faultReply digitsLine allHex field number hexDigit lines inPlace rowsGood rowsNext loaded tableOf onesIn trailingZeros tableBytes tableText choiceLines badChoice badChoiceOf choicesIn hexChar hexDigits hexWords stepLine lastLine traceFrom traceChoices refusedOr traceOf
 example = tt
+
+-- "in choice lines only `02` is known"
+asks : List ℕ → ℕ → Bool
+asks l r = eqb (judgedReply (judge knownChoice l)) r
+
+choices : T (every (
+    asks (line 12 0x020000000003) 0
+    ∷ asks (line 2 0x02) 18
+    ∷ asks (line 14 0x02000000000300) 18
+    ∷ asks (line 2 0xFF) 19
+    ∷ asks (line 36 0x000000000005000000000000000000000000) 19
+    ∷ []))
+unfolding asks line every judgedReply faultReply judge judgeKind onlyDigits beginsWith digitsLine same allHex field number hexDigit hexDigits hexChar
+choices = tt
