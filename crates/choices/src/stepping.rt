@@ -15,12 +15,12 @@ use tables::layout::REGISTERS;
 use tables::layout::agent_count;
 use tables::layout::row_count;
 use tables::replies::ACCEPTED;
-use tables::replies::AFTER_LATE;
 use tables::replies::AGENT_ENDED;
-use tables::replies::BEFORE_CLOCK;
-use tables::replies::BEFORE_EARLY;
 use tables::replies::NO_SUCH_AGENT;
 use tables::replies::STUCK;
+use tables::replies::TIME_ABOVE_LATE;
+use tables::replies::TIME_BELOW_CLOCK;
+use tables::replies::TIME_BELOW_EARLY;
 use tables::rows::family_of;
 use tables::rows::row_at;
 ghost use mathlib.Core.Path.{_≡_};
@@ -51,18 +51,18 @@ pub fn choice_reply(table: &[u32], state: &[u32], a: u32, t: u32) -> u32
         return AGENT_ENDED;
     }
     if t < clock(state) {
-        return BEFORE_CLOCK;
+        return TIME_BELOW_CLOCK;
     }
     let r = row_at(table, b, p as usize);
     if t < r.early {
-        return BEFORE_EARLY;
+        return TIME_BELOW_EARLY;
     }
     let d = deadline(table, state);
     if is_stuck(table, state, b, d) {
         return STUCK;
     }
     if d < t {
-        return AFTER_LATE;
+        return TIME_ABOVE_LATE;
     }
     ACCEPTED
 }

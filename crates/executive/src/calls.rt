@@ -10,8 +10,8 @@ use tables::layout::TABLE_WORDS;
 use tables::replies::ACCEPTED;
 use tables::replies::BAD_STATE;
 use tables::replies::BAD_TABLE;
+use tables::replies::BUFFER_TOO_SHORT;
 use tables::replies::ODD_CHOICES;
-use tables::replies::TOO_SHORT;
 ghost use Rattle.executive.specs.Calls as Calls;
 
 // Replies 1, 8 or 0; where it is 0 the start state stands in the state's words.
@@ -19,10 +19,10 @@ pub fn start(table: &[u32], state: &mut [u32]) -> u32
     ensures { λ r. ⌜ Calls.Started (now (table .entry)) (now (state .entry)) r (now (state .exit)) ⌝ }
 {
     if table.len() < TABLE_WORDS {
-        return TOO_SHORT;
+        return BUFFER_TOO_SHORT;
     }
     if state.len() < STATE_WORDS {
-        return TOO_SHORT;
+        return BUFFER_TOO_SHORT;
     }
     let tb = &table[..TABLE_WORDS];
     if !table_is_good(tb) {
@@ -37,10 +37,10 @@ pub fn step(table: &[u32], state: &mut [u32], agent: u32, time: u32) -> u32
     ensures { λ r. ⌜ Calls.Stepped (now (table .entry)) (now (state .entry)) agent time r (now (state .exit)) ⌝ }
 {
     if table.len() < TABLE_WORDS {
-        return TOO_SHORT;
+        return BUFFER_TOO_SHORT;
     }
     if state.len() < STATE_WORDS {
-        return TOO_SHORT;
+        return BUFFER_TOO_SHORT;
     }
     let tb = &table[..TABLE_WORDS];
     if !table_is_good(tb) {
@@ -60,13 +60,13 @@ pub fn run(table: &[u32], state: &mut [u32], choices: &[u32]) -> Ran
 {
     if table.len() < TABLE_WORDS {
         return Ran {
-            reply: TOO_SHORT,
+            reply: BUFFER_TOO_SHORT,
             count: 0,
         };
     }
     if state.len() < STATE_WORDS {
         return Ran {
-            reply: TOO_SHORT,
+            reply: BUFFER_TOO_SHORT,
             count: 0,
         };
     }

@@ -8,7 +8,7 @@ use tables::frames::line_reply;
 use tables::layout::MOST_AGENTS;
 use tables::layout::MOST_ROWS;
 use tables::replies::ACCEPTED;
-use tables::replies::OUT_OF_PLACE;
+use tables::replies::LINE_OUT_OF_PLACE;
 ghost use mathlib.Core.Path.{_≡_};
 ghost use lib.Dec.{eqb};
 ghost use Rattle.tables.specs.Basics.{first};
@@ -58,7 +58,7 @@ pub fn in_place(text: &[u8]) -> Told
             Line::Opens(b) => {
                 if !may_open(b, a, i) {
                     return Told {
-                        reply: OUT_OF_PLACE,
+                        reply: LINE_OUT_OF_PLACE,
                         line: n,
                     };
                 }
@@ -70,7 +70,7 @@ pub fn in_place(text: &[u8]) -> Told
             Line::Gives(b) => {
                 if !may_give(b, a, i) {
                     return Told {
-                        reply: OUT_OF_PLACE,
+                        reply: LINE_OUT_OF_PLACE,
                         line: n,
                     };
                 }
@@ -81,13 +81,13 @@ pub fn in_place(text: &[u8]) -> Told
             Line::Ends => {
                 if i == 0 {
                     return Told {
-                        reply: OUT_OF_PLACE,
+                        reply: LINE_OUT_OF_PLACE,
                         line: n,
                     };
                 }
                 if p + END_BYTES < text.len() {
                     return Told {
-                        reply: OUT_OF_PLACE,
+                        reply: LINE_OUT_OF_PLACE,
                         line: n + 1,
                     };
                 }
@@ -105,7 +105,7 @@ pub fn in_place(text: &[u8]) -> Told
         }
     }
     Told {
-        reply: OUT_OF_PLACE,
+        reply: LINE_OUT_OF_PLACE,
         line: n,
     }
 }

@@ -13,7 +13,7 @@ use tables::frames::sound_line;
 use tables::frames::word;
 use tables::layout::TABLE_WORDS;
 use tables::replies::ACCEPTED;
-use tables::replies::TOO_SHORT;
+use tables::replies::BUFFER_TOO_SHORT;
 use tables::rows::row_of;
 use tables::rows::row_reply;
 use tables::words::clear;
@@ -129,7 +129,7 @@ pub fn read(text: &[u8], table: &mut [u32]) -> Told
 {
     if table.len() < TABLE_WORDS {
         return Told {
-            reply: TOO_SHORT,
+            reply: BUFFER_TOO_SHORT,
             line: 0,
         };
     }

@@ -11,7 +11,7 @@ use crate::layout::row_place;
 use crate::layout::start_place;
 use crate::replies::ACCEPTED;
 use crate::replies::BAD_TABLE;
-use crate::replies::TOO_SHORT;
+use crate::replies::BUFFER_TOO_SHORT;
 use crate::rows::row_at;
 use crate::rows::row_reply;
 use crate::words::all_zero;
@@ -105,7 +105,7 @@ pub fn check(table: &[u32]) -> u32
     ensures { λ r. ⌜ Checked (now (table .entry)) r ⌝ }
 {
     if table.len() < TABLE_WORDS {
-        return TOO_SHORT;
+        return BUFFER_TOO_SHORT;
     }
     if !table_is_good(&table[..TABLE_WORDS]) {
         return BAD_TABLE;

@@ -1,15 +1,15 @@
-// The numbers of 01's replies, in one place for every crate.
+// The numbers of the replies, in one place for every crate, by the names of the header.
 
 pub const ACCEPTED: u32 = 0;
 // A table or state buffer is too short.
-pub const TOO_SHORT: u32 = 1;
+pub const BUFFER_TOO_SHORT: u32 = 1;
 
 // A character that is no upper-case hexadecimal digit, or no newline.
 pub const BAD_CHARACTER: u32 = 2;
 
-pub const OUT_OF_PLACE: u32 = 3;
+pub const LINE_OUT_OF_PLACE: u32 = 3;
 
-pub const BAD_ROW: u32 = 4;
+pub const BAD_FIELD: u32 = 4;
 
 pub const BAD_TARGET: u32 = 5;
 
@@ -25,13 +25,13 @@ pub const NO_SUCH_AGENT: u32 = 10;
 
 pub const AGENT_ENDED: u32 = 11;
 
-pub const BEFORE_CLOCK: u32 = 12;
+pub const TIME_BELOW_CLOCK: u32 = 12;
 
-pub const BEFORE_EARLY: u32 = 13;
+pub const TIME_BELOW_EARLY: u32 = 13;
 
 pub const STUCK: u32 = 14;
 
-pub const AFTER_LATE: u32 = 15;
+pub const TIME_ABOVE_LATE: u32 = 15;
 
 pub const ODD_CHOICES: u32 = 16;
 

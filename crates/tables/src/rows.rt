@@ -4,7 +4,7 @@ use crate::Row;
 use crate::layout::LAST_TIME;
 use crate::layout::row_place;
 use crate::replies::ACCEPTED;
-use crate::replies::BAD_ROW;
+use crate::replies::BAD_FIELD;
 use crate::replies::BAD_TARGET;
 use crate::replies::BAD_WINDOW;
 use crate::replies::WINDOW_GOES_BACK;
@@ -105,7 +105,7 @@ pub fn row_reply(r: Row, i: u32, c: u32, e: u32, l: u32) -> u32
     ensures { λ q. ⌜ q ≡ rowReply r i c e l ⌝ }
 {
     if !is_well_formed(r) {
-        return BAD_ROW;
+        return BAD_FIELD;
     }
     if c - i - 1 < r.n {
         return BAD_TARGET;

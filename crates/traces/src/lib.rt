@@ -10,8 +10,8 @@ use tables::layout::MOST_AGENTS;
 use tables::layout::MOST_ROWS;
 use tables::layout::TABLE_WORDS;
 use tables::replies::ACCEPTED;
+use tables::replies::BUFFER_TOO_SHORT;
 use tables::replies::INPUT_TOO_LONG;
-use tables::replies::TOO_SHORT;
 ghost use mathlib.Core.Path.{_≡_};
 ghost use lib.ListN.{length};
 ghost use Rattle.tables.specs.Layout.{tableWords};
@@ -48,7 +48,7 @@ pub fn trace(input: &[u8], out: &mut [u8]) -> TraceReply
 {
     if out.len() < LONGEST_OUTPUT {
         return TraceReply {
-            reply: TOO_SHORT,
+            reply: BUFFER_TOO_SHORT,
             length: 0,
         };
     }

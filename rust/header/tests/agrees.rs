@@ -1,5 +1,6 @@
 //! This crate and the C header say the same: sizes, places, ops, numbers and names of the replies,
-//! the version; and the words of the replies are alike wherever they stand.
+//! which the proved code has too, the version; and the words of the replies are alike wherever they
+//! stand.
 
 use std::collections::BTreeMap;
 use std::fs;
@@ -128,6 +129,19 @@ fn every_number_of_the_header_is_here_and_none_is_missing() {
     assert_eq!(defined, expected, "the header, then this crate");
     let version = format!("\"{}\"", env!("CARGO_PKG_VERSION"));
     assert_eq!(texts, [("VERSION".to_string(), version)]);
+}
+
+#[test]
+fn the_proved_code_calls_the_replies_by_the_same_names() {
+    let constants = file("crates/tables/src/replies.rt");
+    let in_code: Vec<(&str, &str)> = constants
+        .lines()
+        .filter_map(|line| line.strip_prefix("pub const ")?.split_once(": u32 = "))
+        .map(|(name, number)| (name, number.trim_end_matches(';')))
+        .collect();
+    let expected = Reply::ALL.map(|reply| (macro_name(reply), reply.number().to_string()));
+    let expected = expected.each_ref().map(|(name, number)| (name.as_str(), number.as_str()));
+    assert_eq!(in_code, expected, "the constants, then this crate");
 }
 
 #[test]
