@@ -12,7 +12,7 @@ use Rattle.tables.specs.Layout.{tableWords}
 use Rattle.tables.specs.Lines.{same, endLine, lines, field, digitsLine}
 use Rattle.tables.specs.Frames.{Frame, opens, gives, ends, malformed, fourWords, frameOf, framesOf}
 use Rattle.tables.proofs.Judging.{fault-some}
-use Rattle.tables.proofs.Heads.{Tells, tells}
+use Rattle.tables.proofs.TableLine.{Tells, tells}
 use Rattle.tables.proofs.Lines.{same-eq, same-self, hex-part, number-next, number-room}
 use Rattle.tables.proofs.Newlines.{joined, joined-lines, line-hex, line-length, lines-end}
 use Rattle.reading.specs.Reader.{endRules, inPlace, framesReply, loaded, tableOf}

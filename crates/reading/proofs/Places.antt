@@ -1,4 +1,4 @@
--- Replies 2 and 3 over a text, a line at a time. Assumes nothing.
+-- Replies 2, 18, 19 and 3 over a text, a line at a time. Assumes nothing.
 use mathlib.Core.Path.{_≡_, refl, sym, ap, _∙_}
 use mathlib.Core.Bool.{Bool, true, false, not, _&&_}
 use mathlib.Core.List.{List, [], _∷_}

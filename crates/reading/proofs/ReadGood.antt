@@ -15,7 +15,7 @@ use Rattle.tables.specs.Frames.{Frame, opens, gives, ends, malformed, fourWords
 use Rattle.reading.specs.Reader.{inPlace, rowsNext, rowIn, rowsGood, framesReply, loaded, tableOf}
 use Rattle.tables.specs.Calls.{Checked}
 use Rattle.tables.proofs.Judging.{fault-some}
-use Rattle.tables.proofs.Heads.{Tells, tells}
+use Rattle.tables.proofs.TableLine.{Tells, tells}
 use Rattle.reading.specs.Calls.{Read}
 use Rattle.reading.specs.declared.Told.{Told}
 use Rattle.tables.proofs.Good.{TableFacts, table-good, good-checked}

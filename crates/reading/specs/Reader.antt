@@ -104,7 +104,7 @@ rowsGood n c i e l (gives b ws ∷ fs) =
 rowsGood n c i e l (ends ∷ fs) = told 0 0
 rowsGood n c i e l (malformed w ∷ fs) = told 0 0
 
--- "First all lines are read for 2 and 3 .. Then rows are taken in order for 4, 5, 6, 7."
+-- "First all lines are read for 2 and 3", and by T-01 for 18 and 19 between them, ".. Then rows are taken in order for 4, 5, 6, 7."
 unfoldable pub framesReply : List Frame → Told
 framesReply fs = elim (inPlace 1 0 0 fs .reply) [ zero ↦ rowsGood 1 0 0 0 0 fs | suc r ↦ inPlace 1 0 0 fs ]
 

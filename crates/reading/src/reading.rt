@@ -1,4 +1,4 @@
-// The reader of frames. The text is passed for replies 2 and 3, then for 4 to 7 while a table beside the lent one is filled, which is then copied.
+// The reader of frames. The text is passed for replies 2, 18, 19 and 3, then for 4 to 7 while a table beside the lent one is filled, which is then copied.
 use crate::Told;
 use crate::loading::put_agent;
 use crate::loading::put_row;

@@ -9,6 +9,7 @@ pub mod Lines
 pub mod Newlines
 pub mod FirstLine
 pub mod Judging
+pub mod TableLine
 pub mod Heads
 pub mod Sound
 pub mod Digits

@@ -23,6 +23,7 @@ fourWords l = field l 4 8 ∷ field l 12 8 ∷ field l 20 8 ∷ field l 28 8 ∷
 abbrev pub tableLines : List ℕ
 tableLines = 0x00 ∷ 36 ∷ 0x01 ∷ 36 ∷ 0xFF ∷ 2 ∷ []
 
+-- of a sound line that is not the end line, the first byte is 00 or 01
 unfoldable pub frameOf : List ℕ → Frame
 frameOf l =
     cond (same l endLine) ends
