@@ -3,7 +3,7 @@ use tables::frames::FIRST_WORD;
 use tables::frames::FOURTH_WORD;
 use tables::frames::SECOND_WORD;
 use tables::frames::THIRD_WORD;
-use tables::frames::word;
+use tables::hex::word;
 use tables::layout::AGENTS_AT;
 use tables::layout::count_place;
 use tables::layout::row_place;

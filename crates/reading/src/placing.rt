@@ -44,7 +44,7 @@ fn may_give(b: u32, a: u32, i: u32) -> bool
     (i as usize) < MOST_ROWS
 }
 
-// Replies 2, 18, 19 and 3, or 0. Only a line that is refused is judged, which looks at all of it. At most MOST_AGENTS of MOST_ROWS rows are passed, so the lines can be counted.
+// Replies 2, 18, 19 and 3, or 0. Only a line that is refused is judged, which looks for its newline. At most MOST_AGENTS of MOST_ROWS rows are passed, so the lines can be counted.
 pub fn in_place(text: &[u8]) -> Told
     ensures { λ r. ⌜ r ≡ inPlace 1 0 0 (framesOf (now (text .entry))) ⌝ }
 {

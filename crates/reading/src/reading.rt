@@ -10,7 +10,7 @@ use tables::frames::Line;
 use tables::frames::SECOND_WORD;
 use tables::frames::THIRD_WORD;
 use tables::frames::sound_line;
-use tables::frames::word;
+use tables::hex::word;
 use tables::layout::TABLE_WORDS;
 use tables::replies::ACCEPTED;
 use tables::replies::BUFFER_TOO_SHORT;

@@ -6,10 +6,10 @@ use Prim.Native.Nat.{ℕ, zero, suc, _+_, _-_, _≤_, _<_, zero-le}
 use native.Mathlib.Omega.{arith}
 use lib.Dec.{eqb}
 use lib.ListN.{length, take, drop, getD, length-drop, drop-of-length-le}
-use lib.Seq.{drop-cons, take-all}
+use lib.Seq.{drop-cons, take-all, length-take-le}
 use borrow.Author.Tests.{eq-eqb, ne-eqb}
 use Rattle.tables.specs.Lines.{newline, onto, lines}
-use Rattle.tables.specs.Heads.{lineLength}
+use Rattle.tables.specs.Heads.{lineLength, lineFrom}
 use Rattle.tables.proofs.Newlines.{lines-newline, lines-other}
 
 line-newline : (c : ℕ) (cs : List ℕ) → eqb c newline ≡ true → lineLength (c ∷ cs) ≡ 1
@@ -79,6 +79,18 @@ first-line s h =
     let j : length (drop n s) ≤ length s = simp length-drop (omega arith) in
     rw (take-all (n + length s) s k, take-all (length s) (drop n s) j) at (splits-some s (length s) h)
 
+-- that line is as long as it is said to be
+pub line-whole : (s : List ℕ) → length (take (lineLength s) s) ≡ lineLength s
+line-whole s = length-take-le (lineLength s) s (line-within s)
+
+-- the same at a place
+module _ (text : List ℕ) (p : ℕ) (h : p < length text) where
+  pub some-left : 0 < length (drop p text)
+  some-left = simp length-drop (omega arith)
+
+  pub first-line-at : lines (drop p text) ≡ lineFrom text p ∷ lines (drop (lineLength (drop p text)) (drop p text))
+  first-line-at = first-line (drop p text) some-left
+
 -- the length of the line at a place, a byte at a time
 module _ (text : List ℕ) (i : ℕ) where
   pub line-stop : i < length text → getD text i 0 ≡ newline → i + 1 ≡ i + lineLength (drop i text)
@@ -97,4 +109,4 @@ module _ (text : List ℕ) (i : ℕ) where
   line-room h = let w : lineLength (drop i text) ≤ length text - i = simp length-drop at (line-within (drop i text)) in omega arith
 
   pub line-past : i < length text → i < i + lineLength (drop i text)
-  line-past h = let w : 0 < length (drop i text) = simp length-drop (omega arith) in let k = line-some (drop i text) w in omega arith
+  line-past h = let k = line-some (drop i text) (some-left text i h) in omega arith

@@ -12,10 +12,10 @@ use Rattle.tables.specs.Frames.{Frame, opens, gives, ends, malformed, fo
 use Rattle.tables.specs.Heads.{endAt, digitsAt, lineLength, lineFrom, wordsAt, headLine, lineAt}
 use Rattle.tables.specs.declared.frames.Line.{Line}
 use Rattle.tables.specs.declared.frames.Line.the-variants.{Opens, Gives, Ends, Malformed}
-use Rattle.tables.proofs.Newlines.{joined, joined-lines, line-hex, line-length, lines-digits, lines-end}
-use Rattle.tables.proofs.Lines.{same-eq, same-self, hex-part, field-cut, field-from}
-use Rattle.tables.proofs.FirstLine.{first-line}
-use Rattle.tables.proofs.TableLine.{not-both, otherKind, kindFrame, line-frame, Tells, tells, Faulted}
+use Rattle.tables.proofs.Newlines.{joined, joined-lines, line-hex, line-length, lines-digits, lines-end, no-end}
+use Rattle.tables.proofs.Lines.{same-eq, hex-part, field-cut, field-from}
+use Rattle.tables.proofs.FirstLine.{first-line-at}
+use Rattle.tables.proofs.TableLine.{not-both, end-frame, otherKind, kindFrame, line-frame, Tells, tells, Faulted}
 
 digits-frame : (s : List ℕ) → digitsLine 36 (take 37 s) ≡ true → frameOf (take 37 s) ≡ kindFrame (field s 0 2) (field s 2 2) (fourWords s)
 unfolding fourWords
@@ -32,8 +32,8 @@ digits-frame s h =
 
 module _ (text : List ℕ) (p : ℕ) where
   frames-end : endAt text p ≡ true → framesOf (drop p text) ≡ ends ∷ framesOf (drop (p + 3) text)
-  unfolding endAt framesOf frameOf same
-  frames-end h = rw (lines-end (drop p text) h, drop-drop 3 p text)
+  unfolding endAt framesOf
+  frames-end h = rw (lines-end (drop p text) h, drop-drop 3 p text, end-frame)
 
   frames-digits : digitsAt 36 text p ≡ true
       → framesOf (drop p text) ≡ kindFrame (field text p 2) (field text (p + 2) 2) (wordsAt text p) ∷ framesOf (drop (p + 37) text)
@@ -70,12 +70,6 @@ neither s l ls e h k = go (frameOf l) refl (tells l)
     whole : s ≡ l ++ joined ls
     whole = sym (joined-lines s) ∙ ap joined e
 
-    no-end : (b : Bool) → same l endLine ≡ b → b ≡ false
-    no-end true q =
-        let f : take 3 s ≡ endLine = ap (take 3) (whole ∙ ap (λ (t : List ℕ). t ++ joined ls) (same-eq l endLine q)) in
-        sym (ap (λ (t : List ℕ). same t endLine) f ∙ same-self endLine) ∙ h
-    no-end false q = refl
-
     no-digits : (b : Bool) → digitsLine 36 l ≡ b → b ≡ false
     no-digits true q =
         let f : take 37 s ≡ l = ap (take 37) whole ∙ take-at l (joined ls) 37 (line-length 36 l q) in
@@ -85,7 +79,7 @@ neither s l ls e h k = go (frameOf l) refl (tells l)
     go : (f : Frame) → frameOf l ≡ f → Tells l f → Faulted l
     go (opens b ws) q t = absurd (not-both (sym (t .1) ∙ no-digits (digitsLine 36 l) refl))
     go (gives b ws) q t = absurd (not-both (sym (t .1) ∙ no-digits (digitsLine 36 l) refl))
-    go ends q t = absurd (not-both (sym t ∙ no-end (same l endLine) refl))
+    go ends q t = absurd (not-both (sym t ∙ no-end s l (joined ls) whole h))
     go (malformed w) q t = record { fault = w; judged = t; frame = q }
 
 abbrev pub kindLine : ℕ → ℕ → Line
@@ -134,7 +128,7 @@ malformed-head l fs = go (frameOf l) refl (tells l)
 module _ (text : List ℕ) (p : ℕ) (h : p < length text) where
   pub first-frame : framesOf (drop p text) ≡ frameOf (lineFrom text p) ∷ framesOf (drop (lineLength (drop p text)) (drop p text))
   unfolding framesOf
-  first-frame = let k : 0 < length (drop p text) = simp length-drop (omega arith) in ap (map frameOf) (first-line (drop p text) k)
+  first-frame = ap (map frameOf) (first-line-at text p h)
 
   pub faulted-at : lineAt text p ≡ Malformed → Faulted (lineFrom text p)
   unfolding lineAt

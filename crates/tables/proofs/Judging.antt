@@ -17,14 +17,10 @@ use Rattle.tables.specs.declared.faults.Fault.{Fault}
 use Rattle.tables.specs.declared.faults.Fault.the-variants.{Character, Length, FirstByte}
 use Rattle.tables.specs.declared.faults.Judged.the-variants.{Sound, Faulty}
 use Rattle.tables.proofs.Lines.{hex-go, hex-at, digits-line, field-cut, field-from}
-use Rattle.tables.proofs.Newlines.{line-hex, line-end, line-length, lines-digits}
-use Rattle.tables.proofs.FirstLine.{first-line, line-within}
+use Rattle.tables.proofs.Newlines.{newline-none, line-hex, line-end, line-length, lines-digits}
+use Rattle.tables.proofs.FirstLine.{line-within, line-whole, first-line-at}
 
-newline-none : hexDigit newline < 16 → ⊥
-unfolding hexDigit
-newline-none k = absurd (omega arith)
-
-pub not-sound : (w : Fault) → Faulty w ≡ Sound → ⊥
+not-sound : (w : Fault) → Faulty w ≡ Sound → ⊥
 not-sound w e = let z : _≡_ {A = ℕ} 0 1 = cc in omega arith
 
 -- the reply of a fault: never 0, and small
@@ -164,9 +160,7 @@ module _ (text : List ℕ) (at p : ℕ) (from : at ≤ p) (hex : allHex (take (p
 
     line-is : lineFrom text at ≡ take (p - at + 1) rest
     line-is =
-        let k : 0 < length rest = omega (arith, room) in
-        let two = sym (first-line rest k) ∙ lines-digits (p - at) rest is-digits in
-        head two
+        head (sym (first-line-at text at (omega arith)) ∙ lines-digits (p - at) rest is-digits)
       where
         head : {l m : List ℕ} {ls ms : List (List ℕ)} → l ∷ ls ≡ m ∷ ms → l ≡ m
         head q = cc
@@ -193,7 +187,7 @@ module _ (text : List ℕ) (at p : ℕ) (from : at ≤ p) (hex : allHex (take (p
         short = line-within rest
 
         whole : length line ≡ lineLength rest
-        whole = length-take-le (lineLength rest) rest short
+        whole = line-whole rest
 
         byte : (i : ℕ) → i ≤ n → getD line i 0 ≡ getD text (at + i) 0
         byte i k = getD-take (lineLength rest) rest i 0 (omega (arith, long, whole)) ∙ getD-drop at text i 0

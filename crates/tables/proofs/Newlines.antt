@@ -9,7 +9,7 @@ use lib.ListN.{length, take, drop, length-drop, take-append-drop}
 use borrow.Author.Tests.{ltb-true, ne-eqb}
 use Rattle.tables.specs.Lines.{same, newline, endLine, onto, lines, hexDigit, allHex, digitsLine}
 use Rattle.tables.proofs.Passed.{and-1, and-2}
-use Rattle.tables.proofs.Lines.{same-eq}
+use Rattle.tables.proofs.Lines.{same-eq, same-self}
 
 unfoldable pub joined : List (List ℕ) → List ℕ
 joined [] = []
@@ -39,9 +39,12 @@ joined-lines (c ∷ cs) = go (eqb c newline) refl (joined-lines cs)
 
 -- ---- a line ends at its first newline, and no digit is one
 
-hex-newline : (c : ℕ) → hexDigit c < 16 → eqb c newline ≡ false
+pub newline-none : hexDigit newline < 16 → ⊥
 unfolding hexDigit
-hex-newline c h = ne-eqb c newline (λ e. let k : hexDigit newline < 16 = rw e at h in absurd (omega arith))
+newline-none h = absurd (omega arith)
+
+hex-newline : (c : ℕ) → hexDigit c < 16 → eqb c newline ≡ false
+hex-newline c h = ne-eqb c newline (λ e. newline-none (rw e at h))
 
 lines-break : (l r : List ℕ) → allHex l ≡ true → lines (l ++ newline ∷ r) ≡ (l ++ newline ∷ []) ∷ lines r
 unfolding lines allHex
@@ -73,3 +76,13 @@ lines-digits n s h =
 pub lines-end : (s : List ℕ) → same (take 3 s) endLine ≡ true → lines s ≡ endLine ∷ lines (drop 3 s)
 unfolding lines
 lines-end s h = ap lines (sym (take-append-drop 3 s) ∙ ap (λ (l : List ℕ). l ++ drop 3 s) (same-eq (take 3 s) endLine h))
+
+-- where it does not begin a text, it does not begin as its first line either
+pub no-end : (s l r : List ℕ) → s ≡ l ++ r → same (take 3 s) endLine ≡ false → same l endLine ≡ false
+no-end s l r e h = go (same l endLine) refl
+  where
+    go : (b : Bool) → same l endLine ≡ b → b ≡ false
+    go true q =
+        let f : take 3 s ≡ endLine = ap (take 3) (e ∙ ap (λ (t : List ℕ). t ++ r) (same-eq l endLine q)) in
+        sym (ap (λ (t : List ℕ). same t endLine) f ∙ same-self endLine) ∙ h
+    go false q = refl

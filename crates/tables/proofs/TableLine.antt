@@ -21,6 +21,10 @@ use Rattle.tables.proofs.Judging.{Among, judge-digits, sound-among}
 pub not-both : _≡_ {A = Bool} true false → ⊥
 not-both e = let z : _≡_ {A = ℕ} 0 1 = cc in omega arith
 
+pub end-frame : frameOf endLine ≡ ends
+unfolding frameOf same
+end-frame = refl
+
 -- ---- 36 digits, by the first byte
 
 -- a line of 36 digits by its first byte: what is wrong with it where that is none of a row's or an agent's

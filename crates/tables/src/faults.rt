@@ -1,6 +1,6 @@
 // What is wrong with a line, if anything: one answer for the lines of a table and for choice lines.
-use crate::frames::digit;
-use crate::frames::field;
+use crate::hex::digit;
+use crate::hex::field;
 use crate::replies::ACCEPTED;
 use crate::replies::BAD_CHARACTER;
 use crate::replies::BAD_LENGTH;

@@ -1,15 +1,17 @@
-// What stands at a place of a text. Lines have fixed widths, so no newline is searched for.
+// What stands at a place of a table's text. Its lines have fixed widths, so no newline is searched for until one is refused.
 use crate::faults::judge_line;
 use crate::faults::judged_reply;
+use crate::hex::digit;
+use crate::hex::field;
 ghost use mathlib.Core.Path.{_≡_};
 ghost use mathlib.Core.Bool.{true, cond};
 ghost use Prim.Native.Nat.{_+_, _≤_, _<_};
 ghost use lib.Dec.{ltb};
-ghost use lib.ListN.{length, take, drop};
+ghost use lib.ListN.{length, drop};
 ghost use Rattle.tables.specs.Lines as Lines;
 ghost use Rattle.tables.specs.Faults.{judgedReply, judge};
 ghost use Rattle.tables.specs.Frames.{tableLines, framesOf};
-ghost use Rattle.tables.specs.Heads.{endAt, digitsAt, lineFrom, lineAt, sound, twoBytes, eightBytes};
+ghost use Rattle.tables.specs.Heads.{endAt, digitsAt, lineFrom, lineAt, sound};
 
 // The digits of a line that opens an agent or gives a row, and its bytes, with the newline.
 pub const FRAME_DIGITS: usize = 36;
@@ -68,17 +70,6 @@ pub fn is_end(text: &[u8], at: usize) -> bool
     same(&text[at..at + END_BYTES], b"FF\n")
 }
 
-// The number that an upper-case hexadecimal digit stands for, 16 for any other byte.
-pub fn digit(b: u8) -> u32
-    ensures { λ r. ⌜ r ≡ Lines.hexDigit b ⌝ }
-{
-    match b {
-        b'0'..=b'9' => (b - 48) as u32,
-        b'A'..=b'F' => (b - 55) as u32,
-        _ => 16,
-    }
-}
-
 // 1 for a byte that is no digit, else 0.
 fn odd(b: u8) -> u8
     ensures { λ r. ⌜ r ≡ cond (ltb (Lines.hexDigit b) 16) 0 1 ⌝ }
@@ -109,29 +100,6 @@ fn is_frame(text: &[u8], at: usize) -> bool
     text[at + FRAME_DIGITS] == b'\n'
 }
 
-// The number that a digit stands for, without a branch.
-fn value(b: u8) -> u32
-    requires { ⌜ Lines.hexDigit b < 16 ⌝ }
-    ensures { λ r. ⌜ r ≡ Lines.hexDigit b ⌝ }
-{
-    let c = b as u32;
-    c % 16 + 9 * (c / 64)
-}
-
-// The number in k digits.
-pub fn field(text: &[u8], at: usize, k: usize) -> u32
-    requires { ⌜ (at + k ≤ length (now text)) × (k ≤ 8) × (Lines.allHex (take k (drop at (now text))) ≡ true) ⌝ }
-    ensures { λ r. ⌜ r ≡ Lines.field (now (text .entry)) at k ⌝ }
-{
-    let mut v = 0;
-    let mut j = 0;
-    while j < k {
-        v = 16 * v + value(text[at + j]);
-        j += 1;
-    }
-    v
-}
-
 // The line that begins at this place.
 pub fn line_at(text: &[u8], at: usize) -> Line
     requires { ⌜ at ≤ length (now text) ⌝ }
@@ -153,7 +121,7 @@ pub fn line_at(text: &[u8], at: usize) -> Line
     Line::Malformed
 }
 
-// The reply to the line that begins at this place, which is looked at to its end.
+// The reply to the line that begins at this place, by all its characters, its length and its first byte.
 pub fn line_reply(text: &[u8], at: usize) -> u32
     requires { ⌜ at ≤ length (now text) ⌝ }
     ensures { λ r. ⌜ r ≡ judgedReply (judge tableLines (lineFrom (now (text .entry)) at)) ⌝ }
@@ -173,41 +141,4 @@ pub fn sound_line(text: &[u8], at: usize) -> Line
         return Line::Opens(field(text, at + AGENT_AT, 2));
     }
     Line::Gives(field(text, at + AGENT_AT, 2))
-}
-
-fn wide(b: u8) -> u64
-    ensures { λ r. ⌜ (r ≡ b) × (r < 256) ⌝ }
-{
-    b as u64
-}
-
-// Two bytes as a number, the first the higher.
-fn two(text: &[u8], p: usize) -> u64
-    requires { ⌜ p + 2 ≤ length (now text) ⌝ }
-    ensures { λ r. ⌜ (r ≡ twoBytes (now (text .entry)) p) × (r < 65536) ⌝ }
-{
-    256 * wide(text[p]) + wide(text[p + 1])
-}
-
-// Eight bytes as a number, the first the highest.
-fn eight(text: &[u8], p: usize) -> u64
-    requires { ⌜ p + 8 ≤ length (now text) ⌝ }
-    ensures { λ r. ⌜ r ≡ eightBytes (now (text .entry)) p ⌝ }
-{
-    let high = 65536 * two(text, p) + two(text, p + 2);
-    let low = 65536 * two(text, p + 4) + two(text, p + 6);
-    4294967296 * high + low
-}
-
-// The word in the eight digits from digit i of the line at this place. All eight are decoded at once: each byte to its digit, then the digits are
-// moved together in pairs.
-pub fn word(text: &[u8], at: usize, i: usize) -> u32
-    requires { ⌜ (at ≤ length (now text)) × (digitsAt 36 (now text) at ≡ true) × (i + 8 ≤ 36) ⌝ }
-    ensures { λ r. ⌜ r ≡ Lines.field (drop at (now (text .entry))) i 8 ⌝ }
-{
-    let x = eight(text, at + i);
-    let digits = (x & 0x0F0F_0F0F_0F0F_0F0F) + 9 * ((x & 0x4040_4040_4040_4040) / 64);
-    let bytes = (digits + digits / 16) & 0x00FF_00FF_00FF_00FF;
-    let pairs = (bytes + bytes / 256) & 0x0000_FFFF_0000_FFFF;
-    ((pairs + pairs / 65536) % 4294967296) as u32
 }

@@ -5,8 +5,9 @@ pub mod layout; // layout.rt: where each thing stands in the words of a table
 pub mod words; // words.rt: words that are 0, made 0, or taken from others
 pub mod rows; // rows.rt: a row of a table, its family, and replies 4 to 7
 pub mod checking; // checking.rt: the check of a table's words, reply 8
+pub mod hex; // hex.rt: hexadecimal digits, and the numbers that they stand for
 pub mod faults; // faults.rt: what is wrong with a line
-pub mod frames; // frames.rt: the lines of a text
+pub mod frames; // frames.rt: the lines of a table's text
 
 // A row, taken apart.
 pub struct Row {

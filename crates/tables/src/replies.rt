@@ -1,9 +1,8 @@
 // The numbers of the replies, in one place for every crate, by the names of the header.
 
 pub const ACCEPTED: u32 = 0;
-// A table or state buffer is too short.
+// A table, state or output buffer is too short.
 pub const BUFFER_TOO_SHORT: u32 = 1;
-
 // A character that is no upper-case hexadecimal digit, or no newline.
 pub const BAD_CHARACTER: u32 = 2;
 

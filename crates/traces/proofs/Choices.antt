@@ -5,8 +5,8 @@ use mathlib.Core.Bool.{true}
 use mathlib.Core.List.{List, [], _∷_}
 use Prim.Native.Nat.{ℕ, _+_, _≤_, _<_}
 use native.Mathlib.Omega.{arith}
-use lib.ListN.{length, take, drop, length-drop, drop-of-length-le}
-use lib.Seq.{drop-drop, length-take-le}
+use lib.ListN.{length, take, drop, drop-of-length-le}
+use lib.Seq.{drop-drop}
 use Rattle.tables.specs.Lines.{lines, field, digitsLine}
 use Rattle.tables.specs.Faults.{faultReply, judge}
 use Rattle.tables.specs.Heads.{digitsAt, lineLength, lineFrom}
@@ -15,7 +15,7 @@ use Rattle.tables.specs.declared.faults.Judged.{Judged}
 use Rattle.tables.specs.declared.faults.Judged.the-variants.{Sound, Faulty}
 use Rattle.tables.proofs.Lines.{field-cut, field-from}
 use Rattle.tables.proofs.Newlines.{line-length, lines-digits}
-use Rattle.tables.proofs.FirstLine.{first-line, line-within}
+use Rattle.tables.proofs.FirstLine.{line-whole, first-line-at}
 use Rattle.tables.proofs.Judging.{fault-some, Among, sound-among}
 use Rattle.tables.proofs.Heads.{digits-room}
 use Rattle.reading.specs.Reader.{told}
@@ -33,11 +33,11 @@ sound-choice l e = go (sound-among knownChoice l e)
 -- ---- what is told of the choice lines, by the first of them
 
 module _ (n : ℕ) (l : List ℕ) (ls : List (List ℕ)) where
-  pub bad-sound : judge knownChoice l ≡ Sound → badChoice n (l ∷ ls) ≡ badChoice (n + 1) ls
+  bad-sound : judge knownChoice l ≡ Sound → badChoice n (l ∷ ls) ≡ badChoice (n + 1) ls
   unfolding badChoice
   bad-sound e = rw (e, badChoice)
 
-  pub bad-faulty : (w : Fault) → judge knownChoice l ≡ Faulty w → badChoice n (l ∷ ls) ≡ told (faultReply w) n
+  bad-faulty : (w : Fault) → judge knownChoice l ≡ Faulty w → badChoice n (l ∷ ls) ≡ told (faultReply w) n
   unfolding badChoice
   bad-faulty w e = rw (e, badChoice)
 
@@ -66,7 +66,7 @@ module _ (text : List ℕ) (p : ℕ) (h : IsChoice text p) where
   choice-line : lineFrom text p ≡ take 13 (drop p text)
   choice-line =
       let s = drop p text in
-      let e : lineLength s ≡ 13 = sym (length-take-le (lineLength s) s (line-within s)) ∙ line-length 12 (lineFrom text p) (sound-choice (lineFrom text p) h) in
+      let e : lineLength s ≡ 13 = sym (line-whole s) ∙ line-length 12 (lineFrom text p) (sound-choice (lineFrom text p) h) in
       ap (λ (n : ℕ). take n s) e
 
   pub choice-digits : digitsAt 12 text p ≡ true
@@ -100,15 +100,12 @@ module _ (text : List ℕ) (p : ℕ) (h : IsChoice text p) where
 -- ---- a line with a fault at a place, and no line
 
 module _ (text : List ℕ) (p : ℕ) where
-  some-line : p < length text → lines (drop p text) ≡ lineFrom text p ∷ lines (drop (lineLength (drop p text)) (drop p text))
-  some-line h = let k : 0 < length (drop p text) = simp length-drop (omega arith) in first-line (drop p text) k
-
   pub bad-here : p < length text → (n : ℕ) (w : Fault) → judge knownChoice (lineFrom text p) ≡ Faulty w → badChoice n (lines (drop p text)) ≡ told (faultReply w) n
-  bad-here h n w e = ap (badChoice n) (some-line h) ∙ bad-faulty n (lineFrom text p) _ w e
+  bad-here h n w e = ap (badChoice n) (first-line-at text p h) ∙ bad-faulty n (lineFrom text p) _ w e
 
   -- where nothing is told of the lines from here on, a choice line stands here
   pub good-here : p < length text → (n : ℕ) → badChoice n (lines (drop p text)) .reply ≡ 0 → IsChoice text p
-  good-here h n e = bad-none-head n (lineFrom text p) _ (ap (λ (ls : List (List ℕ)). badChoice n ls .reply) (sym (some-line h)) ∙ e) .0
+  good-here h n e = bad-none-head n (lineFrom text p) _ (ap (λ (ls : List (List ℕ)). badChoice n ls .reply) (sym (first-line-at text p h)) ∙ e) .0
 
   module _ (h : length text ≤ p) where
     pub bad-none : (n : ℕ) → badChoice n (lines (drop p text)) ≡ told 0 0

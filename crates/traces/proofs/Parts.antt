@@ -26,10 +26,10 @@ told-by : (q : Told) (next : Traced) (r : ℕ) → q .reply ≡ r → refusedOr 
 unfolding refusedOr
 told-by q next r h = ap (λ (x : ℕ). elim x as (λ _. Traced) [ zero ↦ next | suc r ↦ traced (suc r) (lastLine (suc r) (q .line)) ]) h
 
-pub told-none : (q : Told) (next : Traced) → q .reply ≡ 0 → refusedOr q next ≡ next
+told-none : (q : Told) (next : Traced) → q .reply ≡ 0 → refusedOr q next ≡ next
 told-none q next h = told-by q next 0 h
 
-pub told-some : (q : Told) (next : Traced) → (q .reply ≡ 0 → ⊥) → refusedOr q next ≡ traced (q .reply) (lastLine (q .reply) (q .line))
+told-some : (q : Told) (next : Traced) → (q .reply ≡ 0 → ⊥) → refusedOr q next ≡ traced (q .reply) (lastLine (q .reply) (q .line))
 told-some q next k = go (q .reply) refl
   where
     go : (r : ℕ) → q .reply ≡ r → refusedOr q next ≡ traced r (lastLine r (q .line))

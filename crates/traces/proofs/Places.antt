@@ -1,28 +1,19 @@
--- The lines of a text from a place on: the first of them, the table's part, and lines of 12 digits. Assumes nothing.
-use mathlib.Core.Path.{_≡_, refl, sym, ap, _∙_}
-use mathlib.Core.Bool.{Bool, true, false}
-use mathlib.Core.List.{List, _++_}
+-- The table's part of an input, a line at a time: how many bytes and lines it has. Assumes nothing.
+use mathlib.Core.Path.{_≡_, refl, sym, _∙_}
+use mathlib.Core.Bool.{true, false}
+use mathlib.Core.List.{List}
 use Prim.Native.Nat.{ℕ, _+_, _-_, _≤_, _<_}
 use native.Mathlib.Omega.{arith}
-use lib.ListN.{length, take, drop, length-drop, length-take, take-append-drop, drop-of-length-le}
+use lib.ListN.{length, take, drop, take-append-drop, drop-of-length-le}
 use lib.Seq.{drop-drop}
 use Rattle.tables.specs.Lines.{endLine, lines, same}
 use Rattle.tables.specs.Heads.{endAt, lineLength}
-use Rattle.tables.proofs.Lines.{same-eq, same-self}
-use Rattle.tables.proofs.Newlines.{lines-end}
-use Rattle.tables.proofs.FirstLine.{line-within, splits-some, first-line}
+use Rattle.tables.proofs.Lines.{same-eq}
+use Rattle.tables.proofs.Newlines.{lines-end, no-end}
+use Rattle.tables.proofs.FirstLine.{splits-some, first-line, line-whole, some-left}
 use Rattle.traces.specs.Input.{tableBytes, tableText}
 
 -- ---- the table's text
-
-no-end : (s l r : List ℕ) → s ≡ l ++ r → same (take 3 s) endLine ≡ false → same l endLine ≡ false
-no-end s l r e h = go (same l endLine) refl
-  where
-    go : (b : Bool) → same l endLine ≡ b → b ≡ false
-    go true q =
-        let f : take 3 s ≡ endLine = ap (take 3) (e ∙ ap (λ (t : List ℕ). t ++ r) (same-eq l endLine q)) in
-        sym (ap (λ (t : List ℕ). same t endLine) f ∙ same-self endLine) ∙ h
-    go false q = refl
 
 module _ (s : List ℕ) where
   bytes-end : same (take 3 s) endLine ≡ true → tableBytes (lines s) ≡ 3
@@ -33,7 +24,7 @@ module _ (s : List ℕ) where
   unfolding tableBytes
   bytes-next h k =
       let n = lineLength s in
-      let w : length (take n s) ≡ n = simp length-take (omega (arith, line-within s)) in
+      let w = line-whole s in
       rw (first-line s h, no-end s (take n s) (drop n s) (sym (take-append-drop n s)) k, w)
 
   count-end : same (take 3 s) endLine ≡ true → length (lines (tableText s)) ≡ 1
@@ -48,9 +39,6 @@ module _ (s : List ℕ) where
 
 -- the end line, or the first line, at a place of a text
 module _ (text : List ℕ) (p : ℕ) (h : p < length text) where
-  some : 0 < length (drop p text)
-  some = simp length-drop (omega arith)
-
   pub end-bytes : endAt text p ≡ true → p + 3 ≡ p + tableBytes (lines (drop p text))
   unfolding endAt
   end-bytes e = rw (bytes-end (drop p text) e)
@@ -62,12 +50,12 @@ module _ (text : List ℕ) (p : ℕ) (h : p < length text) where
   pub table-bytes : endAt text p ≡ false
       → p + lineLength (drop p text) + tableBytes (lines (drop (p + lineLength (drop p text)) text)) ≡ p + tableBytes (lines (drop p text))
   unfolding endAt
-  table-bytes e = rw (bytes-next (drop p text) some e, drop-drop (lineLength (drop p text)) p text) (omega arith)
+  table-bytes e = rw (bytes-next (drop p text) (some-left text p h) e, drop-drop (lineLength (drop p text)) p text) (omega arith)
 
   pub table-count : endAt text p ≡ false
       → 1 + length (lines (tableText (drop (p + lineLength (drop p text)) text))) ≡ length (lines (tableText (drop p text)))
   unfolding endAt
-  table-count e = sym (count-next (drop p text) some e ∙ rw (drop-drop (lineLength (drop p text)) p text))
+  table-count e = sym (count-next (drop p text) (some-left text p h) e ∙ rw (drop-drop (lineLength (drop p text)) p text))
 
 pub nothing-left : (text : List ℕ) (p : ℕ) → length text ≤ p → (tableBytes (lines (drop p text)) ≡ 0) × (length (lines (tableText (drop p text))) ≡ 0)
 unfolding tableText tableBytes lines

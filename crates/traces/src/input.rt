@@ -71,7 +71,7 @@ fn judge_choice(text: &[u8], at: usize) -> Judged
     judge_line(text, at, &CHOICE_LINES)
 }
 
-// What is told of the first choice line that has a fault, where the line that begins at this place has the number `line`.
+// What is told of the first choice line that has a fault, where the line that begins at this place has the number `line`; 0 and line 0 where none has.
 pub fn first_bad_choice(input: &[u8], at: usize, line: u32) -> Told
     requires { ⌜ (at ≤ length (now input)) × (line + length (now input) < 2 ^ 32) ⌝ }
     ensures { λ r. ⌜ r ≡ badChoice line (lines (drop at (now (input .entry)))) ⌝ }

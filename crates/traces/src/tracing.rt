@@ -12,7 +12,7 @@ use choices::stepping::choice_reply;
 use executive::registers::load_registers;
 use executive::starting::put_start;
 use tables::frames::AGENT_AT;
-use tables::frames::field;
+use tables::hex::field;
 use tables::replies::ACCEPTED;
 ghost use mathlib.Core.Path.{_≡_};
 ghost use mathlib.Core.Bool.{true};

@@ -2,9 +2,6 @@ use borrow.Author.Needs.{needs}
 use borrow.Author.Tests.{lt-ltb, le-ltb}
 use Rattle.tables.proofs.frames.odd.Statement.{statement}
 use Rattle.tables.proofs.frames.odd.Tie as tie
-use Rattle.tables.proofs.frames.odd.Reads as reads
-use Rattle.tables.proofs.frames.odd.Lts as lts
-use Rattle.tables.proofs.frames.digit.Reads as digit-reads
 
 digit-requires : tie.Need-digit-requires
 digit-requires c κs = search needs

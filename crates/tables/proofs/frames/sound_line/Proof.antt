@@ -1,17 +1,12 @@
-use mathlib.Core.Path.{_≡_, refl, sym, ap, _∙_}
-use Prim.Native.Nat.{_+_, _≤_}
+use mathlib.Core.Path.{refl, sym, ap, _∙_}
+use Prim.Native.Nat.{_+_}
 use native.Mathlib.Omega.{arith}
-use lib.ListN.{length}
-use Rattle.tables.specs.Heads.{digitsAt}
 use Rattle.tables.specs.declared.frames.Line.the-variants.{Opens, Gives}
 use Rattle.tables.proofs.Heads.{digits-room, field-asks}
 use Rattle.tables.proofs.Sound.{begins-end, begins-digits, begins-opens, begins-gives}
 use borrow.Author.Needs.{needs}
 use Rattle.tables.proofs.frames.sound_line.Statement.{statement}
 use Rattle.tables.proofs.frames.sound_line.Tie as tie
-use Rattle.tables.proofs.frames.sound_line.Reads as reads
-use Rattle.tables.proofs.frames.sound_line.Lts as lts
-use Rattle.tables.proofs.frames.field.Reads as field-reads
 
 shared-slice-read-if1 : tie.Need-shared-slice-read-if1
 shared-slice-read-if1 c = search needs

@@ -6,8 +6,8 @@ use borrow.Author.Needs.{needs}
 use Rattle.tables.proofs.Digits.{digitsIn, bytesIn, pairsIn, wordIn, word-number}
 use Rattle.tables.proofs.Lines.{field-from}
 use Rattle.tables.proofs.Heads.{field-asks}
-use Rattle.tables.proofs.frames.word.Statement.{statement}
-use Rattle.tables.proofs.frames.word.Tie as tie
+use Rattle.tables.proofs.hex.word.Statement.{statement}
+use Rattle.tables.proofs.hex.word.Tie as tie
 
 add-eight : tie.Need-add-eight
 add-eight c = search needs

@@ -5,8 +5,8 @@ use borrow.Author.Needs.{needs}
 use borrow.Author.Tests.{lt-leb}
 use Rattle.tables.specs.Lines.{hexDigit}
 use Rattle.tables.proofs.Tests.{firsts}
-use Rattle.tables.proofs.frames.digit.Statement.{statement}
-use Rattle.tables.proofs.frames.digit.Tie as tie
+use Rattle.tables.proofs.hex.digit.Statement.{statement}
+use Rattle.tables.proofs.hex.digit.Tie as tie
 
 before-digits : (b : ℕ) → b < 48 → 16 ≡ hexDigit b
 unfolding hexDigit

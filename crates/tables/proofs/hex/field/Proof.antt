@@ -5,8 +5,8 @@ use native.Mathlib.Omega.{arith}
 use lib.ListN.{take, drop, getD}
 use Rattle.tables.specs.Lines.{number, field, hexDigit}
 use Rattle.tables.proofs.Lines.{number-next, number-room, hex-in}
-use Rattle.tables.proofs.frames.field.Statement.{statement}
-use Rattle.tables.proofs.frames.field.Tie as tie
+use Rattle.tables.proofs.hex.field.Statement.{statement}
+use Rattle.tables.proofs.hex.field.Tie as tie
 
 abbrev Inv-loop : tie.InvT-loop
 Inv-loop text at k v₀ j₀ v j = (j ≤ k) × (v ≡ number 0 (take j (drop at text)))

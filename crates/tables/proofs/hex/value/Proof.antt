@@ -1,8 +1,7 @@
-use mathlib.Core.Path.{sym}
 use borrow.Author.Needs.{needs}
 use Rattle.tables.proofs.Lines.{hex-value}
-use Rattle.tables.proofs.frames.value.Statement.{statement}
-use Rattle.tables.proofs.frames.value.Tie as tie
+use Rattle.tables.proofs.hex.value.Statement.{statement}
+use Rattle.tables.proofs.hex.value.Tie as tie
 
 mul-result : tie.Need-mul-result
 mul-result c = search needs
