@@ -190,8 +190,8 @@ extern "C" {
 #define TANNOPLEX_INPUT_TOO_LONG 17     /* the trace program's input is above 65,536 bytes */
 #define TANNOPLEX_BAD_LENGTH 18         /* too few or too many digits for the line's first byte:
                                            look for a line that was cut or joined to the next */
-#define TANNOPLEX_UNKNOWN_FIRST_BYTE 19 /* no known first byte: look for an empty line, or a line of
-                                           another kind */
+#define TANNOPLEX_UNKNOWN_FIRST_BYTE 19 /* no known first byte: look for an empty or cut line, one of
+                                           another kind, or a missing end line before it */
 
 /* What tannoplex_read answers: a reply, and the line it is about, counted from 1; 0 with
    TANNOPLEX_ACCEPTED and TANNOPLEX_BUFFER_TOO_SHORT. */

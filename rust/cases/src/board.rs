@@ -1,6 +1,6 @@
 //! What is compared with the reference.
 
-/// An implementation of document 01's calls and of its trace program.
+/// An implementation of the papers' calls and of their trace program.
 pub trait Board {
     /// Reads a text: reply and line.
     fn read(&self, text: &[u8], table: &mut [u32]) -> (u32, u32);

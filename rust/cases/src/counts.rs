@@ -130,8 +130,12 @@ impl Counts {
         for call in CALLS {
             for &reply in call.replies() {
                 let count = self.replies[call as usize][reply];
-                // There are many ways for a line to be wrong.
-                let floor = if LINE_REPLIES.contains(&reply) { 20 } else { 5 };
+                // There are many ways for a line to be wrong, and many reads for each trace.
+                let floor = match (call, LINE_REPLIES.contains(&reply)) {
+                    (Call::Read, true) => 1_000,
+                    (_, true) => 20,
+                    (_, false) => 5,
+                };
                 at_least(format!("reply {reply} of {call:?}"), count, floor);
             }
         }

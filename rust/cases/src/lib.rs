@@ -1,4 +1,4 @@
-//! Seeded random cases, valid and damaged, on which an implementation of document 01 (a [`Board`])
+//! Seeded random cases, valid and damaged, on which an implementation of the papers (a [`Board`])
 //! is compared with the reference: replies, lines, counts and every word of the lent buffers, and
 //! the words around them.
 

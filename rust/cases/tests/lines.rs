@@ -49,7 +49,7 @@ impl<'t> Refused<'t> {
 
 /// What a faulty reader does, the lines that it does it to, and its reply for them.
 type WrongReply = (&'static str, fn(&Refused) -> bool, u32);
-const WRONG_REPLIES: [WrongReply; 11] = [
+const WRONG_REPLIES: [WrongReply; 12] = [
     ("tells every line with 2", |_| true, 2),
     ("tells every wrong length with 19", |line| line.reply == 18, 19),
     (
@@ -83,6 +83,14 @@ const WRONG_REPLIES: [WrongReply; 11] = [
     ("takes an empty line to be short", |line| line.characters.is_empty(), 18),
     ("takes one digit to be short", |line| line.reply == 19 && line.characters.len() == 1, 18),
     ("knows no first byte alone", |line| line.reply == 18 && line.characters.len() == 2, 19),
+    (
+        "knows in choices what is known in tables, and the reverse",
+        |line| {
+            let known = IN_TABLES.iter().chain(&IN_CHOICES);
+            line.reply == 19 && known.clone().any(|(first, _)| line.characters.starts_with(first))
+        },
+        18,
+    ),
     ("knows every first byte", |line| line.reply == 19 && line.characters.len() > 1, 18),
 ];
 

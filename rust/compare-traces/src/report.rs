@@ -194,7 +194,7 @@ difference: agent 12 after its step 2
     fn where_no_step_is_shown_there_is_no_table_of_agents() {
         let expected = "\
 side    file       steps  reply
-first   one            0  19: no known first byte: look for an empty line, or a line of another kind (line 7 of its input)
+first   one            0  19: no known first byte: look for an empty or cut line, one of another kind, or a missing end line before it (line 7 of its input)
 second  the other      0  0: accepted
 
 refusal, not a difference: only the first was refused; nothing was compared

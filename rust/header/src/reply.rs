@@ -125,7 +125,8 @@ impl fmt::Display for Reply {
                  look for a line that was cut or joined to the next"
             }
             Reply::UnknownFirstByte => {
-                "no known first byte: look for an empty line, or a line of another kind"
+                "no known first byte: look for an empty or cut line, one of another kind, or a \
+                 missing end line before it"
             }
         })
     }

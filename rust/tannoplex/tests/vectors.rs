@@ -20,5 +20,5 @@ fn traces_of_the_vectors() {
         assert!(rest.iter().all(|&byte| byte == b'*'), "{name}: written after the text");
         compared += 1;
     }
-    assert!(compared >= 199, "only {compared} vectors in {}", vectors.display());
+    assert!(compared >= 212, "only {compared} vectors in {}", vectors.display());
 }
