@@ -60,7 +60,7 @@ module _ (known l : List ℕ) (i : ℕ) where
   unfolding judgeKind
   kind-one h = ap (λ (k : List ℕ). judgeKind k l) (next h)
 
-  pub kind-none : length known ≤ i + 1 → judgeKind (drop i known) l ≡ Faulty FirstByte
+  kind-none : length known ≤ i + 1 → judgeKind (drop i known) l ≡ Faulty FirstByte
   unfolding judgeKind
   kind-none h = go (drop i known) (simp length-drop (omega arith))
     where
@@ -140,17 +140,19 @@ module _ (text : List ℕ) (at p : ℕ) (from : at ≤ p) (hex : allHex (take (p
   abbrev rest : List ℕ
   rest = drop at text
 
+  here : at + (p - at) ≡ p
+  here = omega arith
+
   pub one-digit-more : p < length text → hexDigit (getD text p 0) < 16 → allHex (take (p + 1 - at) rest) ≡ true
   one-digit-more h d =
       let r : p - at < length rest = simp length-drop (omega arith) in
-      let e : at + (p - at) ≡ p = omega arith in
       let n : p - at + 1 ≡ p + 1 - at = omega arith in
-      rw n at (hex-go rest (p - at) r hex (rw (getD-drop at text (p - at) 0, e) d))
+      rw n at (hex-go rest (p - at) r hex (rw (getD-drop at text (p - at) 0, here) d))
 
   -- the first byte that is no digit is a newline
   module _ (within : p < length text) (e : getD text p 0 ≡ newline) where
     there : getD rest (p - at) 0 ≡ newline
-    there = let q : at + (p - at) ≡ p = omega arith in getD-drop at text (p - at) 0 ∙ ap (λ (j : ℕ). getD text j 0) q ∙ e
+    there = getD-drop at text (p - at) 0 ∙ ap (λ (j : ℕ). getD text j 0) here ∙ e
 
     room : p - at < length rest
     room = simp length-drop (omega arith)
@@ -159,8 +161,7 @@ module _ (text : List ℕ) (at p : ℕ) (from : at ≤ p) (hex : allHex (take (p
     is-digits = digits-line (p - at) rest room ∙ rw (hex, eq-eqb _ _ there)
 
     line-is : lineFrom text at ≡ take (p - at + 1) rest
-    line-is =
-        head (sym (first-line-at text at (omega arith)) ∙ lines-digits (p - at) rest is-digits)
+    line-is = head (sym (first-line-at text at (omega arith)) ∙ lines-digits (p - at) rest is-digits)
       where
         head : {l m : List ℕ} {ls ms : List (List ℕ)} → l ∷ ls ≡ m ∷ ms → l ≡ m
         head q = cc
@@ -172,9 +173,6 @@ module _ (text : List ℕ) (at p : ℕ) (from : at ≤ p) (hex : allHex (take (p
   module _ (other : p < length text → (15 < hexDigit (getD text p 0)) × (getD text p 0 ≡ newline → ⊥)) where
     abbrev line : List ℕ
     line = lineFrom text at
-
-    there-not : at + (p - at) ≡ p
-    there-not = omega arith
 
     -- where the line were digits, its newline would stand before that byte, at it or after it
     none-so : (n : ℕ) → digitsLine n line ≡ true → ⊥
@@ -217,7 +215,7 @@ module _ (text : List ℕ) (at p : ℕ) (from : at ≤ p) (hex : allHex (take (p
         after k =
             let r : p - at < length line = omega (arith, long) in
             let d = hex-at line n (p - at) (line-hex n line h) k r in
-            let f : hexDigit (getD text p 0) < 16 = rw (byte (p - at) (omega arith), there-not) at d in
+            let f : hexDigit (getD text p 0) < 16 = rw (byte (p - at) (omega arith), here) at d in
             let o = other (omega (arith, reach)) .0 in
             absurd (omega arith)
 
