@@ -10,7 +10,7 @@ use lib.ListN.{length, drop}
 use borrow.Author.Tests.{ltb-true, ltb-false, leb-false, eqb-true, eqb-false, lt-ltb, le-leb, lt-leb, eq-eqb, ne-eqb, not-false}
 use Rattle.tables.specs.Basics.{first, _⇒_, Rule}
 use Rattle.tables.specs.Faults.{judgedReply, judge}
-use Rattle.tables.specs.Frames.{Frame, opens, gives, ends, malformed, tableLines, framesOf}
+use Rattle.tables.specs.Frames.{Frame, opens, gives, ends, malformed, knownInTables, framesOf}
 use Rattle.tables.specs.Heads.{lineLength, lineFrom, headLine, lineAt, wordsAt}
 use Rattle.tables.specs.declared.faults.Judged.{Judged}
 use Rattle.reading.specs.Reader.{told, noneLeft, pastEnd, openingRules, rowRules, endRules, toldBy, inPlace, rowsNext}
@@ -194,7 +194,7 @@ module _ (text : List ℕ) (p : ℕ) (within : p ≤ length text) (n a i : ℕ) 
   unfolding first
   ended-well e y z h = rw (at-end e y z, none-after text (p + 3) h)
 
-  pub broken : lineAt text p ≡ Malformed → p < length text → inPlace n a i (framesOf (drop p text)) ≡ told (judgedReply (judge tableLines (lineFrom text p))) n
+  pub broken : lineAt text p ≡ Malformed → p < length text → inPlace n a i (framesOf (drop p text)) ≡ told (judgedReply (judge knownInTables (lineFrom text p))) n
   unfolding inPlace judgedReply
   broken e h =
       let f = faulted-at text p h e in

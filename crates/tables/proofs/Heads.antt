@@ -63,9 +63,10 @@ module _ (text : List ℕ) (p : ℕ) where
       none (l ∷ ls) e = cc
 
 -- neither an end line nor 36 digits stands at the head of a text
-neither : (s l : List ℕ) (ls : List (List ℕ)) → lines s ≡ l ∷ ls → same (take 3 s) endLine ≡ false → digitsLine 36 (take 37 s) ≡ false → Faulted l
-unfolding joined
-neither s l ls e h k = go (frameOf l) refl (tells l)
+neither : (s l : List ℕ) (ls : List (List ℕ)) (fs : List Frame) → lines s ≡ l ∷ ls → same (take 3 s) endLine ≡ false → digitsLine 36 (take 37 s) ≡ false
+    → headLine (frameOf l ∷ fs) ≡ Malformed
+unfolding joined headLine
+neither s l ls fs e h k = go (frameOf l) (tells l)
   where
     whole : s ≡ l ++ joined ls
     whole = sym (joined-lines s) ∙ ap joined e
@@ -76,11 +77,11 @@ neither s l ls e h k = go (frameOf l) refl (tells l)
         sym (ap (digitsLine 36) f ∙ q) ∙ k
     no-digits false q = refl
 
-    go : (f : Frame) → frameOf l ≡ f → Tells l f → Faulted l
-    go (opens b ws) q t = absurd (not-both (sym (t .1) ∙ no-digits (digitsLine 36 l) refl))
-    go (gives b ws) q t = absurd (not-both (sym (t .1) ∙ no-digits (digitsLine 36 l) refl))
-    go ends q t = absurd (not-both (sym t ∙ no-end s l (joined ls) whole h))
-    go (malformed w) q t = record { fault = w; judged = t; frame = q }
+    go : (f : Frame) → Tells l f → headLine (f ∷ fs) ≡ Malformed
+    go (opens b ws) t = absurd (not-both (sym (t .1) ∙ no-digits (digitsLine 36 l) refl))
+    go (gives b ws) t = absurd (not-both (sym (t .1) ∙ no-digits (digitsLine 36 l) refl))
+    go ends t = absurd (not-both (sym t ∙ no-end s l (joined ls) whole h))
+    go (malformed w) t = refl
 
 abbrev pub kindLine : ℕ → ℕ → Line
 kindLine k a = cond (eqb k 0) (Opens a) (cond (eqb k 1) (Gives a) Malformed)
@@ -112,7 +113,7 @@ module _ (text : List ℕ) (p : ℕ) where
     where
       go : (ls : List (List ℕ)) → lines (drop p text) ≡ ls → headLine (map frameOf ls) ≡ Malformed
       go [] e = refl
-      go (l ∷ ls) e = ap (λ (f : Frame). headLine (f ∷ map frameOf ls)) (neither (drop p text) l ls e h k .frame)
+      go (l ∷ ls) e = neither (drop p text) l ls (map frameOf ls) e h k
 
 -- what stands at place p where the answer is that the line is malformed
 malformed-head : (l : List ℕ) (fs : List Frame) → headLine (frameOf l ∷ fs) ≡ Malformed → Faulted l
@@ -166,7 +167,7 @@ full (Gives a) = true
 full Ends = false
 full Malformed = false
 
--- its frame (the others have no words)
+-- the frame of such a line; no other is asked for one
 abbrev pub frameWith : Line → List ℕ → Frame
 frameWith (Opens a) ws = opens a ws
 frameWith (Gives a) ws = gives a ws

@@ -10,7 +10,7 @@ use native.Mathlib.Omega.{arith}
 use lib.Dec.{ltb, leb, eqb, lit<}
 use lib.ListN.{length, take, drop, getD, length-take, length-drop, drop-of-length-le}
 use lib.Seq.{drop-cons, drop-at, drop-drop, take-suc, take-take, length-take-le, getD-drop}
-use borrow.Author.Tests.{eqb-true, eq-eqb, ltb-true, lt-ltb, leb-true, ne-eqb}
+use borrow.Author.Tests.{eqb-true, eq-eqb, ltb-true, lt-ltb, le-ltb, leb-true, ne-eqb}
 use Rattle.tables.specs.Lines.{same, newline, hexDigit, allHex, number, field, digitsLine}
 use Rattle.tables.specs.Heads.{digitsAt}
 use Rattle.tables.proofs.Tests.{and-left, and-right}
@@ -46,8 +46,10 @@ same-step a b i h k = rw (add-one i, drop-cons a i 0 h, drop-cons b i 0 k)
 -- ---- digits, and the number that they stand for
 
 -- a digit is one of 0 to 9 or one of A to F
-hex-either : (c : ℕ) → hexDigit c < 16
-    → ((48 ≤ c) × (c ≤ 57) × (hexDigit c ≡ c - 48)) ⊎ ((65 ≤ c) × (c ≤ 70) × (hexDigit c ≡ c - 55))
+abbrev Digit : ℕ → Type 0
+Digit c = ((48 ≤ c) × (c ≤ 57) × (hexDigit c ≡ c - 48)) ⊎ ((65 ≤ c) × (c ≤ 70) × (hexDigit c ≡ c - 55))
+
+hex-either : (c : ℕ) → hexDigit c < 16 → Digit c
 unfolding hexDigit
 hex-either c h = go (leb 48 c && leb c 57) refl (leb 65 c && leb c 70) refl h
   where
@@ -62,32 +64,24 @@ hex-either c h = go (leb 48 c && leb c 57) refl (leb 65 c && leb c 70) refl h
 pub hex-value : (c : ℕ) → hexDigit c < 16 → c % 16 + 9 * (c / 64) ≡ hexDigit c
 hex-value c h = go (hex-either c h)
   where
-    go : ((48 ≤ c) × (c ≤ 57) × (hexDigit c ≡ c - 48)) ⊎ ((65 ≤ c) × (c ≤ 70) × (hexDigit c ≡ c - 55)) → c % 16 + 9 * (c / 64) ≡ hexDigit c
+    go : Digit c → c % 16 + 9 * (c / 64) ≡ hexDigit c
     go (inl w) = let l = w .0 in let u = w .1 in let d = w .2 in omega arith
     go (inr w) = let l = w .0 in let u = w .1 in let d = w .2 in omega arith
 
 pub hex-below : (c : ℕ) → hexDigit c < 16 → c < 71
 hex-below c h = go (hex-either c h)
   where
-    go : ((48 ≤ c) × (c ≤ 57) × (hexDigit c ≡ c - 48)) ⊎ ((65 ≤ c) × (c ≤ 70) × (hexDigit c ≡ c - 55)) → c < 71
+    go : Digit c → c < 71
     go (inl w) = let u = w .1 in omega arith
     go (inr w) = let u = w .1 in omega arith
 
--- the digit F
-pub hex-fifteen : (c : ℕ) → hexDigit c ≡ 15 → c ≡ 70
-hex-fifteen c e = go (hex-either c (omega arith))
+-- the character of a digit, by its number
+pub hex-char : (c n : ℕ) → hexDigit c ≡ n → n < 16 → c ≡ cond (ltb n 10) (48 + n) (55 + n)
+hex-char c n e k = go (hex-either c (omega arith))
   where
-    go : ((48 ≤ c) × (c ≤ 57) × (hexDigit c ≡ c - 48)) ⊎ ((65 ≤ c) × (c ≤ 70) × (hexDigit c ≡ c - 55)) → c ≡ 70
-    go (inl w) = let l = w .0 in let u = w .1 in let d = w .2 in absurd (omega arith)
-    go (inr w) = let l = w .0 in let u = w .1 in let d = w .2 in omega arith
-
--- the digits 0 and 1
-pub hex-small : (c n : ℕ) → hexDigit c ≡ n → n ≤ 1 → c ≡ 48 + n
-hex-small c n e k = go (hex-either c (omega arith))
-  where
-    go : ((48 ≤ c) × (c ≤ 57) × (hexDigit c ≡ c - 48)) ⊎ ((65 ≤ c) × (c ≤ 70) × (hexDigit c ≡ c - 55)) → c ≡ 48 + n
-    go (inl w) = let l = w .0 in let u = w .1 in let d = w .2 in omega arith
-    go (inr w) = let l = w .0 in let u = w .1 in let d = w .2 in omega arith
+    go : Digit c → c ≡ cond (ltb n 10) (48 + n) (55 + n)
+    go (inl w) = let l = w .0 in let u = w .1 in let d = w .2 in rw (lt-ltb n 10 (omega arith)) (omega arith)
+    go (inr w) = let l = w .0 in let u = w .1 in let d = w .2 in rw (le-ltb n 10 (omega arith)) (omega arith)
 
 hex-more : (l : List ℕ) (n : ℕ) → n < length l → allHex (take (suc n) l) ≡ (allHex (take n l) && ltb (hexDigit (getD l n 0)) 16)
 unfolding allHex

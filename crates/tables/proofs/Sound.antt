@@ -13,7 +13,7 @@ use Rattle.tables.specs.Frames.{Frame, opens, gives, ends, malformed, fr
 use Rattle.tables.specs.Heads.{endAt, digitsAt, headLine, lineAt, sound}
 use Rattle.tables.specs.declared.frames.Line.{Line}
 use Rattle.tables.specs.declared.frames.Line.the-variants.{Opens, Gives, Ends, Malformed}
-use Rattle.tables.proofs.Lines.{same-eq, two-digits, hex-small}
+use Rattle.tables.proofs.Lines.{same-eq, two-digits, hex-char}
 use Rattle.tables.proofs.Heads.{kindLine, line-digits, framed, ends-at, some-frames}
 
 -- how each line begins
@@ -65,7 +65,7 @@ module _ (text : List ℕ) (p : ℕ) where
         let t = two-digits text p r in
         let x : hexDigit (getD text p 0) ≡ 0 = omega arith in
         let y : hexDigit (getD text (p + 1) 0) ≡ 0 = omega arith in
-        (hex-small _ 0 x (omega arith), hex-small _ 0 y (omega arith), w .digits, k .1)
+        (hex-char _ 0 x (omega arith), hex-char _ 0 y (omega arith), w .digits, k .1)
     begins (Gives b) e =
         let w = framed text p (omega arith) (Gives b) e refl in
         let r : p + 2 ≤ length text = let z = w .room in omega arith in
@@ -74,7 +74,7 @@ module _ (text : List ℕ) (p : ℕ) where
         let t = two-digits text p r in
         let x : hexDigit (getD text p 0) ≡ 0 = omega arith in
         let y : hexDigit (getD text (p + 1) 0) ≡ 1 = omega arith in
-        (hex-small _ 0 x (omega arith), hex-small _ 1 y (omega arith), w .digits, k .1)
+        (hex-char _ 0 x (omega arith), hex-char _ 1 y (omega arith), w .digits, k .1)
     begins Ends e =
         ap (λ (l : List ℕ). getD l 0 0) (sym (ap (take 3) (drop-cons text p 0 h)) ∙ same-eq (take 3 (drop p text)) endLine (ends-at text p e))
     begins Malformed e = absurd (no-malformed e)

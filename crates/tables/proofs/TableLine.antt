@@ -1,29 +1,43 @@
 -- A line of a table by what it is: its frame by its first byte, and what a frame tells of its line. Assumes nothing.
-use mathlib.Core.Path.{_≡_, refl, sym, _∙_}
+use mathlib.Core.Path.{_≡_, refl, sym, subst, _∙_}
 use mathlib.Core.Bool.{Bool, true, false, cond}
 use mathlib.Core.List.{List, [], _∷_}
 use mathlib.Core.Logic.{inl, inr}
 use Prim.Native.Nat.{ℕ, _+_, _*_, _<_}
 use native.Mathlib.Omega.{arith}
 use lib.Dec.{eqb}
-use lib.ListN.{length}
 use Rattle.tables.specs.Lines.{newline, same, endLine, hexDigit, field, digitsLine}
 use Rattle.tables.specs.Faults.{beginsWith, judgeKind, judge}
-use Rattle.tables.specs.Frames.{Frame, opens, gives, ends, malformed, fourWords, tableLines, frameOf}
+use Rattle.tables.specs.Frames.{Frame, opens, gives, ends, malformed, fourWords, knownInTables, frameOf}
 use Rattle.tables.specs.declared.faults.Fault.{Fault}
 use Rattle.tables.specs.declared.faults.Fault.the-variants.{Length, FirstByte}
 use Rattle.tables.specs.declared.faults.Judged.{Judged}
 use Rattle.tables.specs.declared.faults.Judged.the-variants.{Sound, Faulty}
 use Rattle.tables.proofs.Newlines.{line-hex, line-end, line-length}
-use Rattle.tables.proofs.Lines.{same-self, other-length, hex-at, hex-fifteen, two-digits}
+use Rattle.tables.proofs.Lines.{same-self, other-length, hex-at, hex-char, two-digits}
 use Rattle.tables.proofs.Judging.{Among, judge-digits, sound-among}
 
 pub not-both : _≡_ {A = Bool} true false → ⊥
 not-both e = let z : _≡_ {A = ℕ} 0 1 = cc in omega arith
 
+-- ---- the frame of a line, in the order in which it is asked for
+
+module _ (l : List ℕ) where
+  frame-end : same l endLine ≡ true → frameOf l ≡ ends
+  unfolding frameOf
+  frame-end h = rw h
+
+  module _ (h : same l endLine ≡ false) where
+    frame-sound : judge knownInTables l ≡ Sound → frameOf l ≡ cond (eqb (field l 0 2) 0) (opens (field l 2 2) (fourWords l)) (gives (field l 2 2) (fourWords l))
+    unfolding frameOf
+    frame-sound e = rw (h, e)
+
+    frame-faulty : (w : Fault) → judge knownInTables l ≡ Faulty w → frameOf l ≡ malformed w
+    unfolding frameOf
+    frame-faulty w e = rw (h, e)
+
 pub end-frame : frameOf endLine ≡ ends
-unfolding frameOf same
-end-frame = refl
+end-frame = frame-end endLine (same-self endLine)
 
 -- ---- 36 digits, by the first byte
 
@@ -35,9 +49,9 @@ abbrev pub kindFrame : ℕ → ℕ → List ℕ → Frame
 kindFrame k a ws = cond (eqb k 0) (opens a ws) (cond (eqb k 1) (gives a ws) (malformed (otherKind k)))
 
 kind-judged : (l : List ℕ) → digitsLine 36 l ≡ true
-    → judge tableLines l ≡ cond (eqb (field l 0 2) 0) Sound (cond (eqb (field l 0 2) 1) Sound (Faulty (otherKind (field l 0 2))))
+    → judge knownInTables l ≡ cond (eqb (field l 0 2) 0) Sound (cond (eqb (field l 0 2) 1) Sound (Faulty (otherKind (field l 0 2))))
 unfolding judgeKind beginsWith
-kind-judged l h = judge-digits tableLines l 36 h ∙ rw (line-length 36 l h) (go (eqb (field l 0 2) 0xFF))
+kind-judged l h = judge-digits knownInTables l 36 h ∙ rw (line-length 36 l h) (go (eqb (field l 0 2) 0xFF))
   where
     go : (f : Bool) → cond (eqb (field l 0 2) 0) Sound (cond (eqb (field l 0 2) 1) Sound (cond f (Faulty Length) (Faulty FirstByte)))
         ≡ cond (eqb (field l 0 2) 0) Sound (cond (eqb (field l 0 2) 1) Sound (Faulty (cond f Length FirstByte)))
@@ -45,20 +59,16 @@ kind-judged l h = judge-digits tableLines l 36 h ∙ rw (line-length 36 l h) (go
     go false = refl
 
 pub line-frame : (l : List ℕ) → digitsLine 36 l ≡ true → frameOf l ≡ kindFrame (field l 0 2) (field l 2 2) (fourWords l)
-unfolding frameOf
-line-frame l h =
-    let n : length l ≡ 3 → ⊥ = λ e. let w = line-length 36 l h in absurd (omega arith) in
-    rw (other-length l endLine n, kind-judged l h) (go (eqb (field l 0 2) 0) (eqb (field l 0 2) 1))
+line-frame l h = go (eqb (field l 0 2) 0) refl (eqb (field l 0 2) 1) (kind-judged l h)
   where
-    go : (z o : Bool)
-        → elim (cond z Sound (cond o Sound (Faulty (otherKind (field l 0 2))))) as (λ _. Frame) [
-          | Sound ↦ cond z (opens (field l 2 2) (fourWords l)) (gives (field l 2 2) (fourWords l))
-          | Faulty w ↦ malformed w
-        ]
-        ≡ cond z (opens (field l 2 2) (fourWords l)) (cond o (gives (field l 2 2) (fourWords l)) (malformed (otherKind (field l 0 2))))
-    go true o = refl
-    go false true = refl
-    go false false = refl
+    no-end : same l endLine ≡ false
+    no-end = other-length l endLine (λ e. let w = line-length 36 l h in absurd (omega arith))
+
+    go : (z : Bool) → eqb (field l 0 2) 0 ≡ z → (o : Bool) → judge knownInTables l ≡ cond z Sound (cond o Sound (Faulty (otherKind (field l 0 2))))
+        → frameOf l ≡ cond z (opens (field l 2 2) (fourWords l)) (cond o (gives (field l 2 2) (fourWords l)) (malformed (otherKind (field l 0 2))))
+    go true q o e = frame-sound l no-end e ∙ rw q
+    go false q true e = frame-sound l no-end e ∙ rw q
+    go false q false e = frame-faulty l no-end (otherKind (field l 0 2)) e
 
 -- ---- what a frame tells
 
@@ -75,13 +85,13 @@ ff-end (a ∷ b ∷ l) h e =
     let f : hexDigit a ≡ 15 = omega arith in
     let g : hexDigit b ≡ 15 = omega arith in
     let r : l ≡ newline ∷ [] = line-end 2 s h in
-    rw (hex-fifteen a f, hex-fifteen b g, r) (same-self endLine)
+    rw (hex-char a 15 f (omega arith), hex-char b 15 g (omega arith), r) (same-self endLine)
 
 -- a sound line of a table that is not its end line is 36 digits
-sound-digits : (l : List ℕ) → same l endLine ≡ false → judge tableLines l ≡ Sound → digitsLine 36 l ≡ true
-sound-digits l h e = go (sound-among tableLines l e)
+sound-digits : (l : List ℕ) → same l endLine ≡ false → judge knownInTables l ≡ Sound → digitsLine 36 l ≡ true
+sound-digits l h e = go (sound-among knownInTables l e)
   where
-    go : Among tableLines l → digitsLine 36 l ≡ true
+    go : Among knownInTables l → digitsLine 36 l ≡ true
     go (inl w) = w .0
     go (inr (inl w)) = w .0
     go (inr (inr (inl w))) = absurd (not-both (sym (ff-end l (w .0) (w .1)) ∙ h))
@@ -92,24 +102,22 @@ abbrev pub Tells : List ℕ → Frame → Type 0
 Tells l (opens b ws) = (same l endLine ≡ false) × (digitsLine 36 l ≡ true) × (ws ≡ fourWords l)
 Tells l (gives b ws) = (same l endLine ≡ false) × (digitsLine 36 l ≡ true) × (ws ≡ fourWords l)
 Tells l ends = same l endLine ≡ true
-Tells l (malformed w) = judge tableLines l ≡ Faulty w
+Tells l (malformed w) = judge knownInTables l ≡ Faulty w
 
 pub tells : (l : List ℕ) → Tells l (frameOf l)
-unfolding frameOf
-tells l = go (same l endLine) refl (judge tableLines l) refl (eqb (field l 0 2) 0)
+tells l = go (same l endLine) refl (judge knownInTables l) refl
   where
-    go : (b : Bool) → same l endLine ≡ b → (j : Judged) → judge tableLines l ≡ j → (z : Bool)
-        → Tells l (cond b ends (elim j as (λ _. Frame) [
-          | Sound ↦ cond z (opens (field l 2 2) (fourWords l)) (gives (field l 2 2) (fourWords l))
-          | Faulty w ↦ malformed w
-        ]))
-    go true h j q z = h
-    go false h Sound q true = (h, sound-digits l h q, refl)
-    go false h Sound q false = (h, sound-digits l h q, refl)
-    go false h (Faulty w) q z = q
+    either : (z : Bool) → same l endLine ≡ false → digitsLine 36 l ≡ true → Tells l (cond z (opens (field l 2 2) (fourWords l)) (gives (field l 2 2) (fourWords l)))
+    either true h d = (h, d, refl)
+    either false h d = (h, d, refl)
+
+    go : (b : Bool) → same l endLine ≡ b → (j : Judged) → judge knownInTables l ≡ j → Tells l (frameOf l)
+    go true h j q = subst (Tells l) (sym (frame-end l h)) h
+    go false h Sound q = subst (Tells l) (sym (frame-sound l h q)) (either (eqb (field l 0 2) 0) h (sound-digits l h q))
+    go false h (Faulty w) q = subst (Tells l) (sym (frame-faulty l h w q)) q
 
 -- the frame of a line with a fault
 pub record Faulted (l : List ℕ) : Type 0 where
   pub fault : Fault
-  pub judged : judge tableLines l ≡ Faulty fault
+  pub judged : judge knownInTables l ≡ Faulty fault
   pub frame : frameOf l ≡ malformed fault

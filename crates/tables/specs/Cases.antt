@@ -6,11 +6,11 @@ use lib.Dec.{T, eqb}
 use Rattle.tables.specs.Basics.{every}
 use Rattle.tables.specs.Lines.{newline, same, hexDigit, allHex, number, field, digitsLine}
 use Rattle.tables.specs.Faults.{faultReply, judgedReply, onlyDigits, beginsWith, judgeKind, judge}
-use Rattle.tables.specs.Frames.{tableLines}
+use Rattle.tables.specs.Frames.{knownInTables}
 
 -- the line is told with this reply
 asks : List ℕ → ℕ → Bool
-asks l r = eqb (judgedReply (judge tableLines l)) r
+asks l r = eqb (judgedReply (judge knownInTables l)) r
 
 -- characters
 abbrev zero-digit : ℕ

@@ -20,14 +20,14 @@ unfoldable pub fourWords : List ℕ → List ℕ
 fourWords l = field l 4 8 ∷ field l 12 8 ∷ field l 20 8 ∷ field l 28 8 ∷ []
 
 -- 01: "a first byte other than these, or a length other than 36, 36 or 2 digits": the first bytes of a table's lines, each followed by the digits of its line
-abbrev pub tableLines : List ℕ
-tableLines = 0x00 ∷ 36 ∷ 0x01 ∷ 36 ∷ 0xFF ∷ 2 ∷ []
+abbrev pub knownInTables : List ℕ
+knownInTables = 0x00 ∷ 36 ∷ 0x01 ∷ 36 ∷ 0xFF ∷ 2 ∷ []
 
 -- of a sound line that is not the end line, the first byte is 00 or 01
 unfoldable pub frameOf : List ℕ → Frame
 frameOf l =
     cond (same l endLine) ends
-    (elim (judge tableLines l) [
+    (elim (judge knownInTables l) [
       | Sound ↦ cond (eqb (field l 0 2) 0x00) (opens (field l 2 2) (fourWords l)) (gives (field l 2 2) (fourWords l))
       | Faulty w ↦ malformed w
     ])

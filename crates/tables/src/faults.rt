@@ -20,6 +20,7 @@ pub enum Fault {
     FirstByte,
 }
 
+// A line has no fault, or this one first.
 pub enum Judged {
     Sound,
     Faulty(Fault),

@@ -10,7 +10,7 @@ ghost use lib.Dec.{ltb};
 ghost use lib.ListN.{length, drop};
 ghost use Rattle.tables.specs.Lines as Lines;
 ghost use Rattle.tables.specs.Faults.{judgedReply, judge};
-ghost use Rattle.tables.specs.Frames.{tableLines, framesOf};
+ghost use Rattle.tables.specs.Frames.{knownInTables, framesOf};
 ghost use Rattle.tables.specs.Heads.{endAt, digitsAt, lineFrom, lineAt, sound};
 
 // The digits of a line that opens an agent or gives a row, and its bytes, with the newline.
@@ -32,7 +32,7 @@ const END_DIGITS: usize = 2;
 
 pub const END_BYTES: usize = END_DIGITS + 1;
 // The first bytes of a table's lines, each followed by the digits of its line.
-const TABLE_LINES: [usize; 6] = [0x00, FRAME_DIGITS, 0x01, FRAME_DIGITS, 0xFF, END_DIGITS];
+const KNOWN_IN_TABLES: [usize; 6] = [0x00, FRAME_DIGITS, 0x01, FRAME_DIGITS, 0xFF, END_DIGITS];
 
 // A line of a table's text: its kind, with the agent's number.
 pub enum Line {
@@ -124,9 +124,9 @@ pub fn line_at(text: &[u8], at: usize) -> Line
 // The reply to the line that begins at this place, by all its characters, its length and its first byte.
 pub fn line_reply(text: &[u8], at: usize) -> u32
     requires { ⌜ at ≤ length (now text) ⌝ }
-    ensures { λ r. ⌜ r ≡ judgedReply (judge tableLines (lineFrom (now (text .entry)) at)) ⌝ }
+    ensures { λ r. ⌜ r ≡ judgedReply (judge knownInTables (lineFrom (now (text .entry)) at)) ⌝ }
 {
-    judged_reply(judge_line(text, at, &TABLE_LINES))
+    judged_reply(judge_line(text, at, &KNOWN_IN_TABLES))
 }
 
 // The line that begins at this place, where no line from here to the end is malformed: two of its bytes tell.

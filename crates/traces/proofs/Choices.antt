@@ -20,32 +20,32 @@ use Rattle.tables.proofs.Judging.{fault-some, Among, sound-among}
 use Rattle.tables.proofs.Heads.{digits-room}
 use Rattle.reading.specs.Reader.{told}
 use Rattle.reading.specs.declared.Told.{Told}
-use Rattle.traces.specs.Input.{knownChoice, badChoice, choicesIn}
+use Rattle.traces.specs.Input.{knownInChoices, badChoice, choicesIn}
 
 -- a choice line is 12 digits
-pub sound-choice : (l : List ℕ) → judge knownChoice l ≡ Sound → digitsLine 12 l ≡ true
-sound-choice l e = go (sound-among knownChoice l e)
+pub sound-choice : (l : List ℕ) → judge knownInChoices l ≡ Sound → digitsLine 12 l ≡ true
+sound-choice l e = go (sound-among knownInChoices l e)
   where
-    go : Among knownChoice l → digitsLine 12 l ≡ true
+    go : Among knownInChoices l → digitsLine 12 l ≡ true
     go (inl w) = w .0
     go (inr w) = absurd w
 
 -- ---- what is told of the choice lines, by the first of them
 
 module _ (n : ℕ) (l : List ℕ) (ls : List (List ℕ)) where
-  bad-sound : judge knownChoice l ≡ Sound → badChoice n (l ∷ ls) ≡ badChoice (n + 1) ls
+  bad-sound : judge knownInChoices l ≡ Sound → badChoice n (l ∷ ls) ≡ badChoice (n + 1) ls
   unfolding badChoice
   bad-sound e = rw (e, badChoice)
 
-  bad-faulty : (w : Fault) → judge knownChoice l ≡ Faulty w → badChoice n (l ∷ ls) ≡ told (faultReply w) n
+  bad-faulty : (w : Fault) → judge knownInChoices l ≡ Faulty w → badChoice n (l ∷ ls) ≡ told (faultReply w) n
   unfolding badChoice
   bad-faulty w e = rw (e, badChoice)
 
   -- where nothing is told, the first is a choice, and nothing is told of the others
-  pub bad-none-head : badChoice n (l ∷ ls) .reply ≡ 0 → (judge knownChoice l ≡ Sound) × (badChoice (n + 1) ls .reply ≡ 0)
-  bad-none-head h = go (judge knownChoice l) refl
+  pub bad-none-head : badChoice n (l ∷ ls) .reply ≡ 0 → (judge knownInChoices l ≡ Sound) × (badChoice (n + 1) ls .reply ≡ 0)
+  bad-none-head h = go (judge knownInChoices l) refl
     where
-      go : (j : Judged) → judge knownChoice l ≡ j → (judge knownChoice l ≡ Sound) × (badChoice (n + 1) ls .reply ≡ 0)
+      go : (j : Judged) → judge knownInChoices l ≡ j → (judge knownInChoices l ≡ Sound) × (badChoice (n + 1) ls .reply ≡ 0)
       go Sound e = (e, ap (λ (q : Told). q .reply) (sym (bad-sound e)) ∙ h)
       go (Faulty w) e = absurd (fault-some w (ap (λ (q : Told). q .reply) (sym (bad-faulty w e)) ∙ h))
 
@@ -60,7 +60,7 @@ bad-any (l ∷ ls) n m h =
 -- ---- a choice line at a place
 
 abbrev pub IsChoice : List ℕ → ℕ → Type 0
-IsChoice text p = judge knownChoice (lineFrom text p) ≡ Sound
+IsChoice text p = judge knownInChoices (lineFrom text p) ≡ Sound
 
 module _ (text : List ℕ) (p : ℕ) (h : IsChoice text p) where
   choice-line : lineFrom text p ≡ take 13 (drop p text)
@@ -100,7 +100,7 @@ module _ (text : List ℕ) (p : ℕ) (h : IsChoice text p) where
 -- ---- a line with a fault at a place, and no line
 
 module _ (text : List ℕ) (p : ℕ) where
-  pub bad-here : p < length text → (n : ℕ) (w : Fault) → judge knownChoice (lineFrom text p) ≡ Faulty w → badChoice n (lines (drop p text)) ≡ told (faultReply w) n
+  pub bad-here : p < length text → (n : ℕ) (w : Fault) → judge knownInChoices (lineFrom text p) ≡ Faulty w → badChoice n (lines (drop p text)) ≡ told (faultReply w) n
   bad-here h n w e = ap (badChoice n) (first-line-at text p h) ∙ bad-faulty n (lineFrom text p) _ w e
 
   -- where nothing is told of the lines from here on, a choice line stands here

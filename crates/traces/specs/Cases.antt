@@ -1,4 +1,4 @@
--- 01's example, from input bytes to output bytes; and single choice lines, of which T-01 speaks. Assumes nothing.
+-- From input bytes to output bytes, computed: 01's example, and lines that T-01 speaks of. Assumes nothing.
 use mathlib.Core.List.{List, [], _∷_, _++_}
 use Prim.Native.Nat.{ℕ}
 use mathlib.Core.Bool.{Bool}
@@ -17,7 +17,7 @@ use Rattle.choices.specs.Messages.{best, lookAgents, lookRows, look, visible, b
 use Rattle.choices.specs.Effect.{after, receive}
 use Rattle.choices.specs.Fit.{inTime, unfinished}
 use Rattle.choices.specs.Step.{choiceReply, stuck, canGo, accepted, withAgent, withSent}
-use Rattle.traces.specs.Input.{tableBytes, tableText, choiceLines, knownChoice, badChoice, badChoiceOf, choicesIn}
+use Rattle.traces.specs.Input.{tableBytes, tableText, choiceLines, knownInChoices, badChoice, badChoiceOf, choicesIn}
 use Rattle.traces.specs.Output.{hexChar, hexDigits, hexWords, stepLine, lastLine, traceFrom, traceChoices, refusedOr, traceOf}
 
 -- a line of k digits
@@ -25,31 +25,42 @@ line : (k m : ℕ) → List ℕ
 unfolding hexDigits hexChar
 line k m = hexDigits k m ++ (newline ∷ [])
 
-input : List ℕ
-unfolding line
-input =
-    line 36 0x000000000005000000000000000000000000
-    ++ (line 36 0x010020000000000000070000000100000003
+opens-0 : List ℕ
+opens-0 = line 36 0x000000000005000000000000000000000000
+
+sends : List ℕ
+sends = line 36 0x010020000000000000070000000100000003
+
+table : List ℕ
+table =
+    opens-0
+    ++ (sends
     ++ (line 36 0x000100000000000000000000000000000000
     ++ (line 36 0x010130010000000000070000000400000008
-    ++ (endLine
-    ++ (line 12 0x020000000003
-    ++ line 12 0x020100000004)))))
+    ++ endLine)))
 
-output : List ℕ
-unfolding line
-output =
-    line 46 0x0300010000000300000005000000000000000000000000
-    ++ (line 46 0x0301010000000400000000000000050000000000000000
-    ++ line 8 0xFE000002)
+-- the trace of this input is this output
+gives : (input output : List ℕ) → Bool
+unfolding first every same startWords choiceReply stuck canGo inTime unfinished accepted withAgent withSent after receive best lookAgents lookRows look visible beats rowReply wellFormed fieldsFit namesOf within rowOf zeroFrom allZero allBelow readInto framesInto framesReply framesOf frameOf fourWords judge judgeKind onlyDigits beginsWith faultReply digitsLine allHex field number hexDigit lines inPlace rowsGood rowsNext loaded tableOf onesIn trailingZeros tableBytes tableText choiceLines badChoice badChoiceOf choicesIn hexChar hexDigits hexWords stepLine lastLine traceFrom traceChoices refusedOr traceOf
+gives input output = same (traceOf input .bytes) output
 
-example : T (same (traceOf input .bytes) output)
-unfolding input output line first every same startWords choiceReply stuck canGo inTime unfinished accepted withAgent withSent after receive best lookAgents lookRows look visible beats rowReply wellFormed fieldsFit namesOf within rowOf zeroFrom allZero allBelow readInto framesInto framesReply framesOf frameOf fourWords judge judgeKind onlyDigits beginsWith faultReply digitsLine allHex field number hexDigit lines inPlace rowsGood rowsNext loaded tableOf onesIn trailingZeros tableBytes tableText choiceLines badChoice badChoiceOf choicesIn hexChar hexDigits hexWords stepLine lastLine traceFrom traceChoices refusedOr traceOf
-example = tt
+cases : T (every (
+    -- 01's example
+    gives (table ++ (line 12 0x020000000003 ++ line 12 0x020100000004))
+    (line 46 0x0300010000000300000005000000000000000000000000 ++ (line 46 0x0301010000000400000000000000050000000000000000 ++ line 8 0xFE000002))
+    -- a choice line is cut: 18, "its line number in the whole input .. before any step"
+    ∷ gives (table ++ (line 12 0x020000000003 ++ line 10 0x0201000000)) (line 8 0xFE120007)
+    -- the earliest line counts: 19 for an empty one, though a letter follows
+    ∷ gives (opens-0 ++ (sends ++ (newline ∷ 103 ∷ newline ∷ []))) (line 8 0xFE130003)
+    -- "all before 3 on one line": a row with no open agent that is cut too
+    ∷ gives (line 34 0x0100200000000000000700000001000000) (line 8 0xFE120001)
+    ∷ []))
+unfolding opens-0 sends table gives line every
+cases = tt
 
 -- "in choice lines only `02` is known"
 asks : List ℕ → ℕ → Bool
-asks l r = eqb (judgedReply (judge knownChoice l)) r
+asks l r = eqb (judgedReply (judge knownInChoices l)) r
 
 choices : T (every (
     asks (line 12 0x020000000003) 0

@@ -24,13 +24,13 @@ unfoldable pub choiceLines : List ℕ → List (List ℕ)
 choiceLines input = lines (drop (tableBytes (lines input)) input)
 
 -- "in choice lines only `02` is known": the first byte and the digits of the line
-abbrev pub knownChoice : List ℕ
-knownChoice = 0x02 ∷ 12 ∷ []
+abbrev pub knownInChoices : List ℕ
+knownInChoices = 0x02 ∷ 12 ∷ []
 
 -- what is told of the first choice line that has a fault, where line n is next; 0 where none has
 unfoldable pub badChoice : ℕ → List (List ℕ) → Told
 badChoice n [] = told 0 0
-badChoice n (l ∷ ls) = elim (judge knownChoice l) [ Sound ↦ badChoice (n + 1) ls | Faulty w ↦ told (faultReply w) n ]
+badChoice n (l ∷ ls) = elim (judge knownInChoices l) [ Sound ↦ badChoice (n + 1) ls | Faulty w ↦ told (faultReply w) n ]
 
 -- "its line number in the whole input"
 unfoldable pub badChoiceOf : List ℕ → Told

@@ -12,11 +12,11 @@ ghost use lib.ListN.{length, drop};
 ghost use Rattle.tables.specs.Lines.{lines};
 ghost use Rattle.tables.specs.Faults.{judge};
 ghost use Rattle.tables.specs.Heads.{lineLength, lineFrom};
-ghost use Rattle.traces.specs.Input.{longestInput, tableBytes, tableText, knownChoice, badChoice};
+ghost use Rattle.traces.specs.Input.{longestInput, tableBytes, tableText, knownInChoices, badChoice};
 
 const CHOICE_DIGITS: usize = 12;
 // The one first byte that a choice line may have, and the digits of the line.
-const CHOICE_LINES: [usize; 2] = [0x02, CHOICE_DIGITS];
+const KNOWN_IN_CHOICES: [usize; 2] = [0x02, CHOICE_DIGITS];
 // Where the time stands in a choice line, after the agent.
 pub const TIME_AT: usize = 4;
 // A choice line, with its newline.
@@ -66,9 +66,9 @@ pub fn table_end(input: &[u8]) -> TableEnd
 // The choice line that begins at this place, judged.
 fn judge_choice(text: &[u8], at: usize) -> Judged
     requires { ⌜ at ≤ length (now text) ⌝ }
-    ensures { λ r. ⌜ r ≡ judge knownChoice (lineFrom (now (text .entry)) at) ⌝ }
+    ensures { λ r. ⌜ r ≡ judge knownInChoices (lineFrom (now (text .entry)) at) ⌝ }
 {
-    judge_line(text, at, &CHOICE_LINES)
+    judge_line(text, at, &KNOWN_IN_CHOICES)
 }
 
 // What is told of the first choice line that has a fault, where the line that begins at this place has the number `line`; 0 and line 0 where none has.
