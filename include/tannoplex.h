@@ -26,9 +26,10 @@
  *   lent, and words past these lengths are never read or written. Words are in the machine's order
  *   of bytes and aligned as uint32_t is.
  *   A buffer that a call writes must not overlap any other buffer of the same call.
- *   NULL with length 0 is allowed and is an empty buffer: as table or state it is too short
- *   (TANNOPLEX_BUFFER_TOO_SHORT), as text it is the empty text, as choices the empty list. NULL with
- *   any other length is not allowed.
+ *   NULL with length 0 is allowed and is an empty buffer: as table, state or output of a trace it is
+ *   too short (TANNOPLEX_BUFFER_TOO_SHORT), as text or input to be read it is the empty text, as
+ *   choices the empty list; for a text to be written it has no room (TANNOPLEX_TEXT_TOO_LONG). NULL
+ *   with any other length is not allowed.
  *   Any bytes and any words may be lent; nothing need be checked beforehand.
  *
  * Refusals
@@ -78,9 +79,9 @@ extern "C" {
 
 /* The version: the numbers for #if, and the text of them. CHANGELOG.md says what each brought. */
 #define TANNOPLEX_VERSION_MAJOR 0
-#define TANNOPLEX_VERSION_MINOR 3
+#define TANNOPLEX_VERSION_MINOR 4
 #define TANNOPLEX_VERSION_PATCH 0
-#define TANNOPLEX_VERSION "0.3.0"
+#define TANNOPLEX_VERSION "0.4.0"
 
 /* Sizes. */
 #define TANNOPLEX_TABLE_WORDS 2129
@@ -90,6 +91,7 @@ extern "C" {
 #define TANNOPLEX_REGISTERS 4
 #define TANNOPLEX_ROW_WORDS 4
 #define TANNOPLEX_LAST_TIME 1000000
+#define TANNOPLEX_TABLE_TEXT_BYTES 19539   /* the longest text: 528 lines of 37 bytes, one of 3 */
 #define TANNOPLEX_TRACE_INPUT_BYTES 65536  /* the longest input of a trace */
 #define TANNOPLEX_TRACE_OUTPUT_BYTES 24073 /* the longest output: 512 lines of 47 bytes, one of 9 */
 
@@ -192,10 +194,16 @@ extern "C" {
                                            look for a line that was cut or joined to the next */
 #define TANNOPLEX_UNKNOWN_FIRST_BYTE 19 /* no known first byte: look for an empty or cut line, one of
                                            another kind, or a missing end line before it */
+#define TANNOPLEX_TEXT_TOO_LONG 20      /* the table's text is longer than the buffer: lend one of
+                                           the length told */
 
 /* What tannoplex_read answers: a reply, and the line it is about, counted from 1; 0 with
    TANNOPLEX_ACCEPTED and TANNOPLEX_BUFFER_TOO_SHORT. */
 typedef struct { uint32_t reply, line; } tannoplex_told;
+
+/* What tannoplex_write answers: a reply, and the length of the table's text in bytes, also where it
+   was too long; 0 with TANNOPLEX_BUFFER_TOO_SHORT and TANNOPLEX_BAD_TABLE. */
+typedef struct { uint32_t reply, length; } tannoplex_wrote;
 
 /* What tannoplex_run answers: a reply, and how many steps were accepted before it. */
 typedef struct { uint32_t reply, count; } tannoplex_ran;
@@ -219,6 +227,17 @@ typedef struct { uint32_t reply; size_t length; } tannoplex_traced;
  */
 tannoplex_told tannoplex_read(const uint8_t *text, size_t text_len, uint32_t *table,
                               size_t table_len);
+
+/*
+ * Writes the text of a table into the buffer and tells its length: 37 bytes for each agent and each
+ * row, and 3 for the end line. There is one text for a table: tannoplex_read of what was written
+ * gives the same words back, and a text that tannoplex_read accepts is written out again byte for
+ * byte. Bytes of the buffer after the text stay as they were, and no zero byte is added.
+ * Replies: 1 for too few words of the table, 8; then 20 where the text is longer than the buffer. A
+ * buffer of the length told is long enough, and one of TANNOPLEX_TABLE_TEXT_BYTES for every table.
+ */
+tannoplex_wrote tannoplex_write(const uint32_t *table, size_t table_len, uint8_t *text,
+                                size_t text_len);
 
 /* Checks the words of a table. Replies: 1, 8. What tannoplex_read accepts, this accepts. */
 uint32_t tannoplex_check(const uint32_t *table, size_t table_len);

@@ -25,6 +25,7 @@ static const char *const texts[] = {
     /* 17 */ "the trace program's input is above 65,536 bytes",
     /* 18 */ "too few or too many digits for the line's first byte: look for a line that was cut or joined to the next",
     /* 19 */ "no known first byte: look for an empty or cut line, one of another kind, or a missing end line before it",
+    /* 20 */ "the table's text is longer than the buffer: lend one of the length told",
 };
 
 const char *tannoplex_reply_text(uint32_t reply)

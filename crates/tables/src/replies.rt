@@ -39,3 +39,5 @@ pub const INPUT_TOO_LONG: u32 = 17;
 pub const BAD_LENGTH: u32 = 18;
 // A first byte that is not known, or none.
 pub const UNKNOWN_FIRST_BYTE: u32 = 19;
+// A table's text is longer than the buffer.
+pub const TEXT_TOO_LONG: u32 = 20;

@@ -151,8 +151,13 @@ fn last(reply: u32, told: u32, steps: usize) -> Result<Last, String> {
         | Reply::BadLength
         | Reply::UnknownFirstByte => (Some(told), steps == 0 && told > 0),
         Reply::InputTooLong => (None, steps == 0 && told == 0),
-        // A trace without room writes nothing, and it runs its own words, so 8, 9 and 16 cannot be.
-        Reply::BufferTooShort | Reply::BadTable | Reply::BadState | Reply::OddChoices => {
+        // A trace without room writes nothing, and it runs its own words, so 8, 9 and 16 cannot be; it
+        // writes no table out, so 20 cannot.
+        Reply::BufferTooShort
+        | Reply::BadTable
+        | Reply::BadState
+        | Reply::OddChoices
+        | Reply::TextTooLong => {
             return Err(format!("no trace ends with reply {}", reply.number()));
         }
         // Stuck is proved never to be met; of a board with a fault it is worth showing.
@@ -233,7 +238,9 @@ FE000002
                 "time below the clock, which is 00000001: \"",
             ),
             ("03010100000004", "030101000F4241", 2, "time above 1,000,000: \"030101000F4241"),
-            ("FE000002", "FE140002", 3, "there is no reply 20: \"FE140002\""),
+            ("FE000002", "FE100002", 3, "no trace ends with reply 16: \"FE100002\""),
+            ("FE000002", "FE140002", 3, "no trace ends with reply 20: \"FE140002\""),
+            ("FE000002", "FE150002", 3, "there is no reply 21: \"FE150002\""),
             ("FE000002", "FEFF0002", 3, "there is no reply 255: \"FEFF0002\""),
         ] {
             let error = Trace::of(&altered(from, to)).unwrap_err();
@@ -262,7 +269,7 @@ FE000002
         }
         for bad in [
             "FE000003", "FE000001", "FE0F0000", "FE020002", "FE110000", "FE110002", "FE010002",
-            "FE080002", "FE090002", "FE100002", "FE120002", "FE130002",
+            "FE080002", "FE090002", "FE100002", "FE120002", "FE130002", "FE140002",
         ] {
             let error = Trace::of(&altered("FE000002", bad)).unwrap_err();
             assert_eq!(error.line, Some(3), "{bad}");
@@ -291,6 +298,7 @@ FE000002
             "FE110001\n",
             "FE120000\n",
             "FE130000\n",
+            "FE140000\n",
         ] {
             assert!(Trace::of(bad.as_bytes()).is_err(), "{bad}");
         }

@@ -22,6 +22,8 @@ pub const ROWS: usize = 32;
 pub const REGISTERS: usize = 4;
 /// The last time that a window may reach.
 pub const LAST_TIME: u32 = 1_000_000;
+/// Bytes of the longest text of a table.
+pub const TABLE_TEXT_BYTES: usize = 19_539;
 /// Bytes of the longest input of a trace.
 pub const TRACE_INPUT_BYTES: usize = 65_536;
 /// Bytes of the longest output of a trace.

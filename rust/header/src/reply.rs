@@ -47,11 +47,13 @@ pub enum Reply {
     BadLength = 18,
     /// 19: a line of digits has no first byte, or one that is not known where the line stands.
     UnknownFirstByte = 19,
+    /// 20: the table's text is longer than the buffer.
+    TextTooLong = 20,
 }
 
 impl Reply {
     /// All replies, by number.
-    pub const ALL: [Reply; 20] = [
+    pub const ALL: [Reply; 21] = [
         Reply::Accepted,
         Reply::BufferTooShort,
         Reply::BadCharacter,
@@ -72,6 +74,7 @@ impl Reply {
         Reply::InputTooLong,
         Reply::BadLength,
         Reply::UnknownFirstByte,
+        Reply::TextTooLong,
     ];
 
     /// The reply's number.
@@ -128,6 +131,9 @@ impl fmt::Display for Reply {
                 "no known first byte: look for an empty or cut line, one of another kind, or a \
                  missing end line before it"
             }
+            Reply::TextTooLong => {
+                "the table's text is longer than the buffer: lend one of the length told"
+            }
         })
     }
 }
@@ -141,6 +147,6 @@ mod tests {
         for (number, reply) in (0..).zip(Reply::ALL) {
             assert_eq!((reply.number(), Reply::try_from(number)), (number, Ok(reply)));
         }
-        assert_eq!(Reply::try_from(20), Err(20));
+        assert_eq!(Reply::try_from(21), Err(21));
     }
 }

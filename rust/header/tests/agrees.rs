@@ -78,6 +78,7 @@ fn every_number_of_the_header_is_here_and_none_is_missing() {
         ("ROWS", header::ROWS as u64),
         ("REGISTERS", header::REGISTERS as u64),
         ("LAST_TIME", header::LAST_TIME.into()),
+        ("TABLE_TEXT_BYTES", header::TABLE_TEXT_BYTES as u64),
         ("TRACE_INPUT_BYTES", header::TRACE_INPUT_BYTES as u64),
         ("TRACE_OUTPUT_BYTES", header::TRACE_OUTPUT_BYTES as u64),
         ("TRACE_STACK_BYTES", header::TRACE_STACK_BYTES as u64),
