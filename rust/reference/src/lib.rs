@@ -1,5 +1,5 @@
-//! Document 01 once more, as change request T-01 of document 02 leaves it, in plain Rust, written from
-//! the papers alone.
+//! Document 01 once more, as change requests T-01 and T-02 of document 02 leave it, in plain Rust,
+//! written from the papers alone.
 //!
 //! It is here to be compared with the proved library, so it is direct and not quick: words are
 //! decoded into tables and states, worked on as such, and encoded again.
@@ -10,11 +10,13 @@ pub mod reader;
 pub mod reply;
 pub mod table;
 pub mod trace;
+pub mod writer;
 
 pub use executive::{fits, run, start, step, State};
 pub use reader::read;
 pub use table::{check, Agent, Row, Table};
 pub use trace::trace;
+pub use writer::write;
 
 /// Words of a table.
 pub const TABLE_WORDS: usize = 2129;

@@ -20,3 +20,4 @@ pub const ODD_CHOICES: u32 = 16;
 pub const INPUT_TOO_LONG: u32 = 17;
 pub const BAD_LENGTH: u32 = 18;
 pub const UNKNOWN_FIRST_BYTE: u32 = 19;
+pub const TEXT_TOO_LONG: u32 = 20;
