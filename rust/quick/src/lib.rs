@@ -1,5 +1,5 @@
-//! Document 01, as change request T-01 leaves it, in optimised Rust that does not allocate: what the
-//! benchmark measures the proved library against. `cases` compares it with the reference.
+//! Document 01, as change requests T-01 and T-02 leave it, in optimised Rust that does not allocate:
+//! what the benchmark measures the proved library against. `cases` compares it with the reference.
 //!
 //! It works on the lent words where they stand and tests many words without a branch for each. Its
 //! cost is that of the paper's own account: one check of the table, for each step the number of
@@ -13,11 +13,13 @@ mod reader;
 mod steps;
 mod table;
 mod trace;
+mod writer;
 
 pub use reader::read;
 pub use steps::{run, run_narrow, start, step, step_narrow};
 pub use table::check;
 pub use trace::{trace, OUTPUT_BYTES};
+pub use writer::write;
 
 /// Words of a table.
 pub const TABLE_WORDS: usize = 2129;
@@ -49,6 +51,7 @@ mod reply {
     pub const INPUT_TOO_LONG: u32 = 17;
     pub const BAD_LENGTH: u32 = 18;
     pub const UNKNOWN_FIRST_BYTE: u32 = 19;
+    pub const TEXT_TOO_LONG: u32 = 20;
 }
 
 /// Whether any of these words is not 0.
