@@ -12,7 +12,7 @@
 
 #include "tannoplex.h"
 
-enum { READ, CHECK, START, STEP, RUN, TRACE };
+enum { READ, CHECK, START, STEP, RUN, TRACE, WRITE };
 
 /* What comes before the memory. Numbers are low byte first. */
 struct call {
@@ -96,6 +96,12 @@ static struct answer answer_to(const struct call *call, char *memory)
         tannoplex_traced traced = tannoplex_trace(lent[0], bytes[0], lent[1], bytes[1]);
         answer.reply = traced.reply;
         answer.more = traced.length;
+        break;
+    }
+    case WRITE: {
+        tannoplex_wrote wrote = tannoplex_write(lent[0], words[0], lent[1], bytes[1]);
+        answer.reply = wrote.reply;
+        answer.more = wrote.length;
         break;
     }
     default:

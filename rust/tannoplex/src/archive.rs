@@ -8,6 +8,14 @@ pub struct Told {
     pub line: u32,
 }
 
+/// `tannoplex_wrote`.
+#[repr(C)]
+#[derive(Clone, Copy)]
+pub struct Wrote {
+    pub reply: u32,
+    pub length: u32,
+}
+
 /// `tannoplex_ran`.
 #[repr(C)]
 #[derive(Clone, Copy)]
@@ -36,6 +44,13 @@ extern "C" {
         table: *mut u32,
         table_len: usize,
     ) -> Told;
+
+    pub fn tannoplex_write(
+        table: *const u32,
+        table_len: usize,
+        text: *mut u8,
+        text_len: usize,
+    ) -> Wrote;
 
     pub fn tannoplex_check(table: *const u32, table_len: usize) -> u32;
 
@@ -94,6 +109,16 @@ mod tests {
             assert_eq!((told.reply, told.line, table), (3, 1, [5; crate::TABLE_WORDS]));
             let told = tannoplex_read(text.as_ptr(), text.len(), table.as_mut_ptr(), words);
             assert_eq!((told.reply, told.line), (0, 0));
+
+            let mut again = [b'*'; 77];
+            let wrote = tannoplex_write(null(), 0, null_mut(), 0);
+            assert_eq!((wrote.reply, wrote.length), (1, 0));
+            let wrote = tannoplex_write(null(), 0, again.as_mut_ptr(), again.len());
+            assert_eq!((wrote.reply, wrote.length, again), (1, 0, [b'*'; 77]));
+            let wrote = tannoplex_write(table.as_ptr(), words, null_mut(), 0);
+            assert_eq!((wrote.reply, wrote.length), (20, 77));
+            let wrote = tannoplex_write(table.as_ptr(), words, again.as_mut_ptr(), again.len());
+            assert_eq!((wrote.reply, wrote.length, &again), (0, 77, text));
 
             assert_eq!(tannoplex_check(null(), 0), 1);
             assert_eq!(tannoplex_start(null(), 0, state.as_mut_ptr(), state_words), 1);

@@ -13,7 +13,7 @@ use std::process::{Child, ChildStdin, ChildStdout, Command, Stdio};
 use std::slice;
 use std::sync::Mutex;
 
-use crate::archive::{Ran, Told, Traced};
+use crate::archive::{Ran, Told, Traced, Wrote};
 
 #[cfg(not(target_endian = "little"))]
 compile_error!("words go to the emulated archive as they lie in memory, low byte first");
@@ -64,6 +64,7 @@ enum Function {
     Step,
     Run,
     Trace,
+    Write,
 }
 
 /// A lent buffer: its pointer, which may be NULL, and its length in bytes.
@@ -150,6 +151,18 @@ pub unsafe extern "C" fn tannoplex_read(
     // SAFETY: the caller lends what the archive's function asks for, and so it is below.
     let (reply, line) = unsafe { call(Function::Read, text, table, Lent::NONE, [0, 0]) };
     Told { reply, line: line as u32 }
+}
+
+#[no_mangle]
+pub unsafe extern "C" fn tannoplex_write(
+    table: *const u32,
+    table_len: usize,
+    text: *mut u8,
+    text_len: usize,
+) -> Wrote {
+    let (table, text) = (Lent::words(table, table_len), Lent::bytes(text, text_len));
+    let (reply, length) = unsafe { call(Function::Write, table, text, Lent::NONE, [0, 0]) };
+    Wrote { reply, length: length as u32 }
 }
 
 #[no_mangle]

@@ -56,6 +56,17 @@ pub struct Told {
     pub line: u32,
 }
 
+/// What [`write`] answers.
+#[derive(Clone, Copy, Debug, PartialEq, Eq)]
+#[must_use]
+pub struct Wrote {
+    /// [`Reply::Accepted`], or why nothing was written.
+    pub reply: Reply,
+    /// The length of the table's text in bytes, also with [`Reply::TextTooLong`]; 0 with
+    /// [`Reply::BufferTooShort`] and [`Reply::BadTable`].
+    pub length: usize,
+}
+
 /// What [`run`] answers.
 #[derive(Clone, Copy, Debug, PartialEq, Eq)]
 #[must_use]
@@ -88,6 +99,37 @@ pub fn read(text: &[u8], table: &mut [u32]) -> Told {
         archive::tannoplex_read(text.as_ptr(), text.len(), table.as_mut_ptr(), table.len())
     };
     Told { reply: given(told.reply), line: told.line }
+}
+
+/// Writes the text of a table into `text`, whose bytes after it stay as they were.
+///
+/// Replies [`Reply::BufferTooShort`] for too few words of the table, [`Reply::BadTable`], then
+/// [`Reply::TextTooLong`] with the length needed. A buffer of exactly that length is long enough, and
+/// one of [`TABLE_TEXT_BYTES`] for every table.
+///
+/// [`read`] of what was written gives the same words back, and a text that [`read`] accepts is written
+/// out again byte for byte:
+///
+/// ```
+/// use tannoplex::{Reply, TABLE_TEXT_BYTES, TABLE_WORDS};
+///
+/// let text = b"000000000005000000000000000000000000\n\
+///              010020000000000000070000000100000003\n\
+///              FF\n";
+/// let mut table = [0; TABLE_WORDS];
+/// assert_eq!(tannoplex::read(text, &mut table).reply, Reply::Accepted);
+///
+/// let mut again = [0; TABLE_TEXT_BYTES];
+/// let wrote = tannoplex::write(&table, &mut again);
+/// assert_eq!(wrote.reply, Reply::Accepted);
+/// assert_eq!(&again[..wrote.length], text);
+/// ```
+pub fn write(table: &[u32], text: &mut [u8]) -> Wrote {
+    // SAFETY: as in `read`.
+    let wrote = unsafe {
+        archive::tannoplex_write(table.as_ptr(), table.len(), text.as_mut_ptr(), text.len())
+    };
+    Wrote { reply: given(wrote.reply), length: wrote.length as usize }
 }
 
 /// Checks the words of a table: [`Reply::BufferTooShort`], [`Reply::BadTable`] or
