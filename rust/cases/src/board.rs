@@ -4,6 +4,8 @@
 pub trait Board {
     /// Reads a text: reply and line.
     fn read(&self, text: &[u8], table: &mut [u32]) -> (u32, u32);
+    /// Writes a table's text: reply and length.
+    fn write(&self, table: &[u32], text: &mut [u8]) -> (u32, u32);
     /// Checks a table.
     fn check(&self, table: &[u32]) -> u32;
     /// Makes the start state.

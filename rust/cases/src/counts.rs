@@ -12,6 +12,7 @@ use crate::choices::Choice;
 #[derive(Clone, Copy, Debug, PartialEq, Eq)]
 pub enum Call {
     Read,
+    Write,
     Check,
     Start,
     Step,
@@ -20,8 +21,16 @@ pub enum Call {
     Choices,
 }
 
-const CALLS: [Call; 7] =
-    [Call::Read, Call::Check, Call::Start, Call::Step, Call::Run, Call::Trace, Call::Choices];
+const CALLS: [Call; 8] = [
+    Call::Read,
+    Call::Write,
+    Call::Check,
+    Call::Start,
+    Call::Step,
+    Call::Run,
+    Call::Trace,
+    Call::Choices,
+];
 
 /// What a line is refused with, in a table and in choices, before its place or its row is looked at.
 pub const LINE_REPLIES: [usize; 3] = [2, 18, 19];
@@ -33,6 +42,7 @@ impl Call {
     fn replies(self) -> &'static [usize] {
         match self {
             Call::Read => &[0, 1, 2, 3, 4, 5, 6, 7, 18, 19],
+            Call::Write => &[0, 1, 8, 20],
             Call::Check | Call::Start => &[0, 1, 8],
             Call::Step => &[0, 1, 8, 9, 10, 11, 12, 13, 15],
             Call::Run => &[0, 1, 8, 10, 11, 12, 13, 15, 16],
@@ -42,7 +52,7 @@ impl Call {
     }
 }
 
-const REPLIES: usize = 20;
+const REPLIES: usize = 21;
 /// The reply that cannot be met.
 const STUCK: usize = 14;
 
@@ -134,6 +144,7 @@ impl Counts {
                 let floor = match (call, LINE_REPLIES.contains(&reply)) {
                     (Call::Read, true) => 1_000,
                     (_, true) => 20,
+                    (Call::Write, false) => 500,
                     (_, false) => 5,
                 };
                 at_least(format!("reply {reply} of {call:?}"), count, floor);

@@ -1,6 +1,6 @@
 //! Seeded random cases, valid and damaged, on which an implementation of the papers (a [`Board`])
-//! is compared with the reference: replies, lines, counts and every word of the lent buffers, and
-//! the words around them.
+//! is compared with the reference: replies, lines, lengths, counts and every word or byte of the lent
+//! buffers, and those around them.
 
 pub mod board;
 pub mod choices;

@@ -28,6 +28,7 @@ pub enum Kind {
     LongRun,
     Pair,
     Trace,
+    Write,
 }
 
 /// How many cases of each kind a comparison has.
@@ -46,6 +47,7 @@ impl Default for Plan {
             (Kind::LongRun, 12_000),
             (Kind::Pair, 2_000),
             (Kind::Trace, 2_000),
+            (Kind::Write, 16_000),
         ])
     }
 }
@@ -96,6 +98,7 @@ pub fn compare_one(
         Kind::LongRun => long_run_case(rng, board, counts),
         Kind::Pair => pair_case(rng, board, counts),
         Kind::Trace => trace_case(rng, board, counts),
+        Kind::Write => write_case(rng, board, counts),
     };
     outcome.map_err(|what| Failure { seed, kind, index, what })
 }
@@ -111,7 +114,10 @@ fn same<T: PartialEq + fmt::Debug + ?Sized>(what: &str, expected: &T, got: &T) -
 }
 
 /// Demands that the board left the reference's memory.
-fn same_memory(what: &str, expected: &Lent, got: &Lent) -> Outcome {
+fn same_memory<T>(what: &str, expected: &Lent<T>, got: &Lent<T>) -> Outcome
+where
+    T: PartialEq + fmt::Display,
+{
     match expected.difference(got) {
         None => Ok(()),
         Some(place) => Err(format!("{what} (expected, then got): {place}")),
@@ -157,12 +163,76 @@ fn read_case(rng: &mut Rng, board: &dyn Board, counts: &mut Counts) -> Outcome {
     let outcome = same("reply and line", &told, &board.read(lent, got.words_mut()))
         .and_then(|()| same_memory("the table", &expected, &got))
         .and_then(|()| match told.0 {
-            // What is read is accepted by the check.
-            0 => same("check of what was read", &0, &board.check(got.words())),
+            // What is read is accepted by the check, and written out again byte for byte.
+            0 => same("check of what was read", &0, &board.check(got.words()))
+                .and_then(|()| written_again(rng, board, counts, got.words(), lent)),
             _ => Ok(()),
         });
     counts.reply(Call::Read, told.0);
     outcome.map_err(|what| format!("{what}\ntext:\n{}", String::from_utf8_lossy(lent)))
+}
+
+/// Demands that words which were read from a text are written out as that text.
+fn written_again(
+    rng: &mut Rng,
+    board: &dyn Board,
+    counts: &mut Counts,
+    table: &[u32],
+    text: &[u8],
+) -> Outcome {
+    let room = text.len() + rng.pick(&[0, 0, 1, 40]);
+    let mut got = Lent::for_text(rng, room);
+    let mut expected = got.clone();
+    expected.bytes_mut()[..text.len()].copy_from_slice(text);
+    counts.reply(Call::Write, 0);
+    let told = (0, text.len() as u32);
+    same("write of what was read", &told, &board.write(table, got.bytes_mut()))?;
+    same_memory("the text written again", &expected, &got)
+}
+
+/// Each table into buffers of several lengths, and what was written is read again.
+fn write_case(rng: &mut Rng, board: &dyn Board, counts: &mut Counts) -> Outcome {
+    let size = any_size(rng);
+    let (table, lent) = lent_table(rng, size, 30);
+    let before = lent.clone();
+    // A damaged table may still be accepted, with another length.
+    let length = match reference::write(lent.words(), &mut []).1 {
+        0 => text(&table).len(),
+        needed => needed as usize,
+    };
+    for room in [0, rng.below(length), length - 1, length, length + rng.within(1, 40)] {
+        compare_write(rng, board, counts, &lent, room)
+            .and_then(|()| same_memory("the table", &before, &lent))
+            .map_err(|what| {
+                let table = listed(before.words());
+                format!("{what}\na buffer of {room} bytes\ntable: {table}")
+            })?;
+    }
+    Ok(())
+}
+
+/// Compares a write into a buffer of so many bytes, and reads again what was written.
+fn compare_write(
+    rng: &mut Rng,
+    board: &dyn Board,
+    counts: &mut Counts,
+    table: &Lent,
+    room: usize,
+) -> Outcome {
+    let mut expected = Lent::for_text(rng, room);
+    let mut got = expected.clone();
+    let told = reference::write(table.words(), expected.bytes_mut());
+    counts.reply(Call::Write, told.0);
+    same("reply and length", &told, &board.write(table.words(), got.bytes_mut()))?;
+    same_memory("the text", &expected, &got)?;
+    if told.0 != 0 {
+        return Ok(());
+    }
+    let mut again = Lent::blank(rng, TABLE_WORDS, true);
+    let text = &got.bytes()[..told.1 as usize];
+    same("read of what was written", &(0, 0), &board.read(text, again.words_mut()))?;
+    let (first, second) = (&table.words()[..TABLE_WORDS], &again.words()[..TABLE_WORDS]);
+    same("the words written and those read again", first, second)
 }
 
 fn check_case(rng: &mut Rng, board: &dyn Board, counts: &mut Counts) -> Outcome {

@@ -107,6 +107,9 @@ impl Board for Reader {
     fn read(&self, text: &[u8], table: &mut [u32]) -> (u32, u32) {
         reference::read(text, table)
     }
+    fn write(&self, table: &[u32], text: &mut [u8]) -> (u32, u32) {
+        reference::write(table, text)
+    }
     fn check(&self, table: &[u32]) -> u32 {
         reference::check(table)
     }

@@ -46,6 +46,11 @@ impl Board for Archive {
         (told.reply.number(), told.line)
     }
 
+    fn write(&self, table: &[u32], text: &mut [u8]) -> (u32, u32) {
+        let wrote = tannoplex::write(table, text);
+        (wrote.reply.number(), wrote.length as u32)
+    }
+
     fn check(&self, table: &[u32]) -> u32 {
         tannoplex::check(table).number()
     }

@@ -9,6 +9,9 @@ impl Board for Quick {
     fn read(&self, text: &[u8], table: &mut [u32]) -> (u32, u32) {
         quick::read(text, table)
     }
+    fn write(&self, table: &[u32], text: &mut [u8]) -> (u32, u32) {
+        quick::write(table, text)
+    }
     fn check(&self, table: &[u32]) -> u32 {
         quick::check(table)
     }
@@ -28,12 +31,13 @@ impl Board for Quick {
     }
 }
 
-/// A reply with a line or a count.
+/// A reply with a line, a length or a count.
 pub type Told = (u32, u32);
 
 /// A board with one fault, laid over the good one.
 pub struct Faulty<'f> {
     pub read: &'f dyn Fn(&[u8], &mut [u32]) -> Told,
+    pub write: &'f dyn Fn(&[u32], &mut [u8]) -> Told,
     pub check: fn(&[u32]) -> u32,
     pub step: fn(&[u32], &mut [u32], u32, u32) -> u32,
     pub run: fn(&[u32], &mut [u32], &[u32]) -> Told,
@@ -42,6 +46,7 @@ pub struct Faulty<'f> {
 
 pub const GOOD: Faulty = Faulty {
     read: &quick::read,
+    write: &quick::write,
     check: quick::check,
     step: quick::step,
     run: quick::run,
@@ -51,6 +56,9 @@ pub const GOOD: Faulty = Faulty {
 impl Board for Faulty<'_> {
     fn read(&self, text: &[u8], table: &mut [u32]) -> (u32, u32) {
         (self.read)(text, table)
+    }
+    fn write(&self, table: &[u32], text: &mut [u8]) -> (u32, u32) {
+        (self.write)(table, text)
     }
     fn check(&self, table: &[u32]) -> u32 {
         (self.check)(table)
@@ -70,6 +78,7 @@ impl Board for Faulty<'_> {
 }
 
 /// A line by its number, with its newline where it has one.
+#[allow(dead_code)] // Boards that write have no line told.
 pub fn line_of(text: &[u8], number: u32) -> Option<&[u8]> {
     text.split_inclusive(|&byte| byte == b'\n').nth(number as usize - 1)
 }
