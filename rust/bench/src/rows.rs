@@ -83,6 +83,32 @@ fn read() -> Row {
     }
 }
 
+fn write() -> Row {
+    let table = full_table();
+    let words = table.to_words();
+    let length = cases::texts::text(&table).len();
+    let (proved, quick) = (words.clone(), words.clone());
+    let mut proved_text = vec![0; length];
+    let mut quick_text = vec![0; length];
+    Row {
+        what: format!("the same table, to {length} bytes of text"),
+        between: "nothing; each call writes the same text over the last",
+        calls: CALLS,
+        proved: again(move || {
+            let wrote = tannoplex::write(black_box(&proved), black_box(&mut proved_text));
+            assert!(wrote.reply.is_accepted() && wrote.length == length);
+        }),
+        quick: again(move || {
+            let wrote = quick::write(black_box(&quick), black_box(&mut quick_text));
+            assert_eq!(wrote, (0, length as u32));
+        }),
+        narrow: None,
+        sum: again(move || {
+            black_box(sum(black_box(&words)));
+        }),
+    }
+}
+
 /// One step from each state of a whole schedule. The states are put back before each turn.
 struct Steps<F> {
     table: Vec<u32>,
@@ -228,9 +254,10 @@ fn trace() -> Row {
 pub type Named = (&'static str, fn() -> Row);
 
 /// All rows of the table.
-pub const ALL: [Named; 7] = [
+pub const ALL: [Named; 8] = [
     ("check", check),
     ("read", read),
+    ("write", write),
     ("step", step),
     ("run, many RECVs", run_many_recvs),
     ("run, no RECVs", run_no_recvs),
