@@ -1,7 +1,7 @@
 /*
- * Each call once accepted and once refused, a read by each refusal of a line's form, through the
- * header: that its names, types and results are those of the archive. Prints one line, or fails at
- * the first difference.
+ * Each call once accepted and once refused, a read by each refusal of a line's form, a write by each
+ * of its refusals, through the header: that its names, types and results are those of the archive.
+ * Prints one line, or fails at the first difference.
  */
 #include <stdio.h>
 #include <stdlib.h>
@@ -10,6 +10,7 @@
 #include "sample.h"
 #include "tannoplex.h"
 
+#define KEPT 0x2A
 #define OUTPUT                                                                                     \
     "0300010000000300000005000000000000000000000000\n"                                             \
     "0301010000000400000000000000050000000000000000\n"                                             \
@@ -17,9 +18,10 @@
 
 static const uint8_t text[] = TABLE, input[] = TABLE CHOICES, long_end[] = "FF00\n";
 static const uint32_t choices[] = {0, 3, 1, 4, 1, 4};
-static uint32_t table[TANNOPLEX_TABLE_WORDS];
+static uint32_t table[TANNOPLEX_TABLE_WORDS], again[TANNOPLEX_TABLE_WORDS];
 static uint32_t state[TANNOPLEX_STATE_WORDS], stepped[TANNOPLEX_STATE_WORDS];
 static uint8_t out[TANNOPLEX_TRACE_OUTPUT_BYTES];
+static uint8_t exact[sizeof TABLE - 1], longest[TANNOPLEX_TABLE_TEXT_BYTES];
 
 static void expect(int good, const char *what)
 {
@@ -27,6 +29,61 @@ static void expect(int good, const char *what)
         fprintf(stderr, "calls: %s\n", what);
         exit(1);
     }
+}
+
+static void expect_wrote(tannoplex_wrote wrote, uint32_t reply, size_t length, const char *what)
+{
+    expect(wrote.reply == reply && wrote.length == length, what);
+}
+
+/* Whether so many bytes are as they were before a call. */
+static int are_kept(const uint8_t *bytes, size_t count)
+{
+    while (count > 0 && bytes[count - 1] == KEPT) {
+        count--;
+    }
+    return count == 0;
+}
+
+/* The table that was read, written out again. */
+static void test_write(void)
+{
+    const size_t words = TANNOPLEX_TABLE_WORDS, length = sizeof exact;
+    memset(exact, KEPT, sizeof exact);
+    memset(longest, KEPT, sizeof longest);
+
+    expect_wrote(tannoplex_write(NULL, 0, exact, length), TANNOPLEX_BUFFER_TOO_SHORT, 0,
+                 "write, no table");
+    table[TANNOPLEX_TABLE_AGENTS] = 3;
+    expect_wrote(tannoplex_write(table, words - 1, NULL, 0), TANNOPLEX_BUFFER_TOO_SHORT, 0,
+                 "write, too few words, of a bad table, for no buffer");
+    expect_wrote(tannoplex_write(table, words, exact, length), TANNOPLEX_BAD_TABLE, 0,
+                 "write, a bad table");
+    expect_wrote(tannoplex_write(table, words, NULL, 0), TANNOPLEX_BAD_TABLE, 0,
+                 "write, a bad table, for no buffer");
+    table[TANNOPLEX_TABLE_AGENTS] = 2;
+    expect_wrote(tannoplex_write(table, words, NULL, 0), TANNOPLEX_TEXT_TOO_LONG, length,
+                 "write, no buffer");
+    expect_wrote(tannoplex_write(table, words, exact, length - 1), TANNOPLEX_TEXT_TOO_LONG, length,
+                 "write, one byte too few");
+    expect(are_kept(exact, sizeof exact), "a refused write leaves every byte");
+
+    expect_wrote(tannoplex_write(table, words, exact, length), TANNOPLEX_ACCEPTED, length, "write");
+    expect(memcmp(exact, text, length) == 0, "what was read is written byte for byte");
+    expect_wrote(tannoplex_write(table, words, longest, sizeof longest), TANNOPLEX_ACCEPTED, length,
+                 "write, a longer buffer");
+    expect(memcmp(longest, text, length) == 0 &&
+               are_kept(longest + length, sizeof longest - length),
+           "bytes after the text stay as they were");
+
+    tannoplex_told told = tannoplex_read(longest, length, again, words);
+    expect(told.reply == TANNOPLEX_ACCEPTED && memcmp(again, table, sizeof table) == 0,
+           "what was written is read to the same words");
+
+    /* Register 3 of agent 1: the last eight digits of line 3, high byte first. */
+    again[TANNOPLEX_TABLE_REGISTER(1, 3)] = 0x89ABCDEF;
+    expect_wrote(tannoplex_write(again, words, exact, length), TANNOPLEX_ACCEPTED, length, "write");
+    expect(memcmp(exact + 3 * 37 - 9, "89ABCDEF\n", 9) == 0, "digits are upper-case");
 }
 
 int main(void)
@@ -50,6 +107,7 @@ int main(void)
                row[TANNOPLEX_ROW_K] == 7 && row[TANNOPLEX_ROW_EARLY] == 4 &&
                row[TANNOPLEX_ROW_LATE] == 8,
            "the places of a row in the table");
+    test_write();
 
     expect(tannoplex_check(table, words - 1) == TANNOPLEX_BUFFER_TOO_SHORT, "check, too short");
     expect(tannoplex_check(table, words) == TANNOPLEX_ACCEPTED, "check");
@@ -87,6 +145,6 @@ int main(void)
                memcmp(out, OUTPUT, sizeof OUTPUT - 1) == 0,
            "trace");
 
-    printf("the six calls answer through the header as they must\n");
+    printf("the seven calls answer through the header as they must\n");
     return 0;
 }

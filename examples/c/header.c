@@ -12,7 +12,7 @@
 #if TANNOPLEX_VERSION_MAJOR == 0 && TANNOPLEX_VERSION_MINOR < 2
 #error "the version cannot be told by #if"
 #endif
-#if TANNOPLEX_SET != 0 || TANNOPLEX_RECV != 0x30 || TANNOPLEX_UNKNOWN_FIRST_BYTE != 19
+#if TANNOPLEX_SET != 0 || TANNOPLEX_RECV != 0x30 || TANNOPLEX_TEXT_TOO_LONG != 20
 #error "ops and replies cannot be told by #if"
 #endif
 
@@ -30,6 +30,9 @@ HOLDS(rows, TANNOPLEX_TABLE_ROW(0, 0) == 81 && TANNOPLEX_TABLE_ROW(2, 3) == 81 +
                 TANNOPLEX_TABLE_ROW(15, 31) + TANNOPLEX_ROW_LATE == TANNOPLEX_TABLE_WORDS - 1);
 HOLDS(words_of_a_row, TANNOPLEX_ROW_CODE == 0 && TANNOPLEX_ROW_K == 1 && TANNOPLEX_ROW_EARLY == 2 &&
                           TANNOPLEX_ROW_LATE == TANNOPLEX_ROW_WORDS - 1);
+
+HOLDS(texts, TANNOPLEX_TABLE_TEXT_BYTES ==
+                 37 * TANNOPLEX_AGENTS * (1 + TANNOPLEX_ROWS) + sizeof "FF\n" - 1);
 
 HOLDS(positions, TANNOPLEX_STATE_POSITION(0) == TANNOPLEX_STATE_CLOCK + 1 &&
                      TANNOPLEX_STATE_POSITION(15) == TANNOPLEX_STATE_REGISTERS - 1);

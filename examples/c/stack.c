@@ -22,6 +22,7 @@ static const size_t words = TANNOPLEX_TABLE_WORDS, state_words = TANNOPLEX_STATE
 
 static uint32_t no_call(void) { return TANNOPLEX_ACCEPTED; }
 static uint32_t read_text(void) { return tannoplex_read(text, sizeof text - 1, table, words).reply; }
+static uint32_t write_text(void) { return tannoplex_write(table, words, out, sizeof out).reply; }
 static uint32_t check(void) { return tannoplex_check(table, words); }
 static uint32_t start(void) { return tannoplex_start(table, words, state, state_words); }
 static uint32_t step(void) { return tannoplex_step(table, words, state, state_words, 0, 3); }
@@ -54,9 +55,10 @@ int main(void)
         uint32_t (*call)(void);
         size_t most;
     } calls[] = {
-        {"read", read_text, TANNOPLEX_READ_STACK_BYTES}, {"check", check, TANNOPLEX_STACK_BYTES},
-        {"start", start, TANNOPLEX_STACK_BYTES},         {"step", step, TANNOPLEX_STACK_BYTES},
-        {"run", run, TANNOPLEX_STACK_BYTES},             {"trace", trace, TANNOPLEX_TRACE_STACK_BYTES},
+        {"read", read_text, TANNOPLEX_READ_STACK_BYTES}, {"write", write_text, TANNOPLEX_STACK_BYTES},
+        {"check", check, TANNOPLEX_STACK_BYTES},         {"start", start, TANNOPLEX_STACK_BYTES},
+        {"step", step, TANNOPLEX_STACK_BYTES},           {"run", run, TANNOPLEX_STACK_BYTES},
+        {"trace", trace, TANNOPLEX_TRACE_STACK_BYTES},
     };
     uint32_t reply;
     size_t none = stack_of(no_call, &reply);
