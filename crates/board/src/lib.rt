@@ -3,8 +3,10 @@
 use executive::Ran;
 use reading::Told;
 use traces::TraceReply;
+use writing::Wrote;
 ghost use Rattle.tables.specs.Calls as Tables;
 ghost use Rattle.reading.specs.Calls as Reading;
+ghost use Rattle.writing.specs.Calls as Writing;
 ghost use Rattle.executive.specs.Calls as Executive;
 ghost use Rattle.traces.specs.Calls as Traces;
 
@@ -13,6 +15,13 @@ pub extern "C" fn tannoplex_read(text: &[u8], table: &mut [u32]) -> Told
     ensures { λ r. ⌜ Reading.Read (now (text .entry)) (now (table .entry)) r (now (table .exit)) ⌝ }
 {
     reading::reading::read(text, table)
+}
+
+#[no_mangle]
+pub extern "C" fn tannoplex_write(table: &[u32], text: &mut [u8]) -> Wrote
+    ensures { λ r. ⌜ Writing.Written (now (table .entry)) (now (text .entry)) r (now (text .exit)) ⌝ }
+{
+    writing::writing::write(table, text)
 }
 
 #[no_mangle]

@@ -1,96 +1,20 @@
--- Lines that were written are read back: digits to their number, step lines to their steps. Assumes nothing.
+-- Lines that were written are read back: step lines to their steps. Assumes nothing.
 use mathlib.Core.Path.{_≡_, refl, sym, ap, _∙_}
-use mathlib.Core.Logic.{by-cases}
 use mathlib.Core.Bool.{true, false}
 use mathlib.Core.List.{List, [], _∷_, _++_, append-assoc, append-nil}
-use Prim.Native.Nat.{ℕ, zero, suc, _+_, _*_, _/_, _%_, _^_, _<_}
-use native.Mathlib.Nat.{pow-succ'}
-use native.Mathlib.Decide.{decLt}
+use Prim.Native.Nat.{ℕ, _+_, _^_, _<_}
 use native.Mathlib.Omega.{arith}
-use lib.Dec.{ltb, lit<}
-use lib.ListN.{length, take, drop, getD, length-append}
-use lib.Seq.{take-at, drop-at, drop-drop}
-use borrow.Author.Tests.{lt-ltb, le-ltb, le-leb, lt-leb}
-use Rattle.tables.specs.Lines.{newline, same, lines, hexDigit, allHex, number, field, digitsLine}
-use Rattle.tables.proofs.Tests.{and-both, and-right}
-use Rattle.tables.proofs.Passed.{and-1, and-2}
-use Rattle.tables.proofs.Newlines.{lines-digits}
-use Rattle.traces.specs.Output.{hexChar, hexDigits, hexWords, stepLine, lastLine}
-use Rattle.traces.proofs.Writes.{hexDigits-length, hexWords-length}
+use lib.Dec.{lit<}
+use lib.ListN.{length, getD, length-append}
+use Rattle.tables.specs.Lines.{newline, lines, allHex, field, digitsLine}
+use Rattle.tables.proofs.Tests.{and-right}
+use Rattle.digits.specs.Hex.{hexDigits, hexWords}
+use Rattle.digits.proofs.Writes.{hexDigits-length, hexWords-length, four-of}
+use Rattle.digits.proofs.Back.{hex-append, digits-hex, words-hex, digits-field, digits-past, made-line, line-first}
+use Rattle.traces.specs.Output.{stepLine, lastLine}
 use Rattle.traces.proofs.Steps.{stepLine-length, lastLine-length}
 use Rattle.demands.specs.Steps.{Step, step}
 use Rattle.demands.specs.Traces.{isStepLine, stepIn, stepsShown, stepLines}
-
--- ---- digits
-
-hex-back : (d : ℕ) → d < 16 → hexDigit (hexChar d) ≡ d
-unfolding hexDigit hexChar
-hex-back d h = by-cases (decLt d 10)
-    (λ l. rw (lt-ltb d 10 l, le-leb 48 (48 + d) (omega arith), le-leb (48 + d) 57 (omega arith)) (omega arith))
-    (λ n. rw (le-ltb d 10 (omega arith), le-leb 48 (55 + d) (omega arith), lt-leb (55 + d) 57 (omega arith), le-leb 65 (55 + d) (omega arith), le-leb (55 + d) 70 (omega arith)) (omega arith))
-
-number-append : (m : ℕ) (xs ys : List ℕ) → number m (xs ++ ys) ≡ number (number m xs) ys
-unfolding number
-number-append m [] ys = refl
-number-append m (x ∷ xs) ys = number-append (16 * m + hexDigit x) xs ys
-
-hex-append : (xs ys : List ℕ) → allHex xs ≡ true → allHex ys ≡ true → allHex (xs ++ ys) ≡ true
-unfolding allHex
-hex-append [] ys h k = k
-hex-append (x ∷ xs) ys h k =
-    and-both (ltb (hexDigit x) 16) (allHex (xs ++ ys)) (and-1 (ltb (hexDigit x) 16) (allHex xs) h) (hex-append xs ys (and-2 (ltb (hexDigit x) 16) (allHex xs) h) k)
-
-pub digits-number : (k v : ℕ) → v < 16 ^ k → number 0 (hexDigits k v) ≡ v
-unfolding number hexDigits
-digits-number zero v h = omega arith
-digits-number (suc k) v h =
-    let p = pow-succ' 16 k in
-    let e = digits-number k (v / 16) (omega arith) in
-    let d = hex-back (v % 16) (omega arith) in
-    number-append 0 (hexDigits k (v / 16)) (hexChar (v % 16) ∷ []) ∙ omega arith
-
-pub digits-hex : (k v : ℕ) → allHex (hexDigits k v) ≡ true
-unfolding allHex hexDigits
-digits-hex zero v = refl
-digits-hex (suc k) v =
-    let d = hex-back (v % 16) (omega arith) in
-    hex-append (hexDigits k (v / 16)) (hexChar (v % 16) ∷ []) (digits-hex k (v / 16)) (rw (lt-ltb (hexDigit (hexChar (v % 16))) 16 (omega arith)))
-
-words-hex : (ws : List ℕ) → allHex (hexWords ws) ≡ true
-unfolding allHex hexWords
-words-hex [] = refl
-words-hex (w ∷ ws) = hex-append (hexDigits 8 w) (hexWords ws) (digits-hex 8 w) (words-hex ws)
-
--- ---- fields of a line that is put together
-
-module _ (xs ys : List ℕ) where
-  field-here : (k : ℕ) → length xs ≡ k → field (xs ++ ys) 0 k ≡ number 0 xs
-  unfolding field
-  field-here k e = ap (number 0) (take-at xs ys k e)
-
-  field-past : (n i k : ℕ) → length xs ≡ n → field (xs ++ ys) (n + i) k ≡ field ys i k
-  unfolding field
-  field-past n i k e = ap (λ (l : List ℕ). number 0 (take k l)) (sym (drop-drop i n (xs ++ ys)) ∙ ap (drop i) (drop-at xs ys n e))
-
--- digits at the front, and behind them
-digits-field : (k v : ℕ) (ys : List ℕ) → v < 16 ^ k → field (hexDigits k v ++ ys) 0 k ≡ v
-digits-field k v ys h = field-here (hexDigits k v) ys k (hexDigits-length k v) ∙ digits-number k v h
-
-digits-past : (n v : ℕ) (ys : List ℕ) (i k : ℕ) → field (hexDigits n v ++ ys) (n + i) k ≡ field ys i k
-digits-past n v ys i k = field-past (hexDigits n v) ys n i k (hexDigits-length n v)
-
--- ---- a line of digits
-
-made-line : (n : ℕ) (xs : List ℕ) → length xs ≡ n → allHex xs ≡ true → digitsLine n (xs ++ (newline ∷ [])) ≡ true
-unfolding digitsLine same
-made-line n xs e h = rw (take-at xs (newline ∷ []) n e, drop-at xs (newline ∷ []) n e, h)
-
--- it is the first of a text that begins with it
-pub line-first : (n : ℕ) (l r : List ℕ) → length l ≡ n + 1 → digitsLine n l ≡ true → lines (l ++ r) ≡ l ∷ lines r
-line-first n l r e h =
-    let t = take-at l r (n + 1) e in
-    let d = drop-at l r (n + 1) e in
-    lines-digits n (l ++ r) (rw t h) ∙ rw (t, d)
 
 -- ---- the line of a step
 
@@ -101,14 +25,6 @@ pub record Plain (s : Step) : Type 0 where
   pub position : s .left .pos < 16 ^ 2
   pub four : length (s .left .regs) ≡ 4
   pub small : (i : ℕ) → getD (s .left .regs) i 0 < 16 ^ 8
-
-four-of : (l : List ℕ) → length l ≡ 4 → l ≡ getD l 0 0 ∷ getD l 1 0 ∷ getD l 2 0 ∷ getD l 3 0 ∷ []
-four-of [] e = absurd (omega arith)
-four-of (a ∷ []) e = absurd (omega arith)
-four-of (a ∷ b ∷ []) e = absurd (omega arith)
-four-of (a ∷ b ∷ c ∷ []) e = absurd (omega arith)
-four-of (a ∷ b ∷ c ∷ d ∷ []) e = refl
-four-of (a ∷ b ∷ c ∷ d ∷ f ∷ l) e = absurd (omega arith)
 
 module _ (a t p : ℕ) (ws : List ℕ) where
   abbrev body : List ℕ

@@ -9,8 +9,10 @@ use lib.Dec.{eqb, lit<}
 use lib.ListN.{length, getD, set, take, drop, replicate}
 use lib.Seq.{sets, set-out, getD-set-same, getD-set-other, getD-drop}
 use lib.Count.{onesIn, trailingZeros, trailing-le}
+use Rattle.tables.specs.Small.{Word, Small}
 use Rattle.tables.specs.declared.Row.{Row}
 use Rattle.tables.specs.Layout.{agents, row, rowOf, rowPlace}
+use Rattle.tables.proofs.Small.{small-cons, small-append, small-zeros, small-drop, small-take, small-set, small-sets}
 use Rattle.choices.specs.declared.Agent.{Agent}
 use Rattle.choices.specs.declared.Best.{Best}
 use Rattle.choices.specs.declared.Best.the-variants.{Nothing, Message}
@@ -21,60 +23,6 @@ use Rattle.choices.specs.Step.{accepted, withAgent, withSent}
 use Rattle.choices.proofs.After.{Carries, after-made}
 use Rattle.executive.specs.Laws.{Taken}
 use Rattle.executive.proofs.Taken.{best-taken}
-
--- a word of 32 bits
-abbrev pub Word : ℕ → Type 0
-Word v = v < 2 ^ 32
-
-pub record Small (ws : List ℕ) : Type 0 where
-  pub word : (i : ℕ) → Word (getD ws i 0)
-
-pub small-nil : Small []
-small-nil = record { word = λ i. lit< tt }
-
-pub small-cons : {x : ℕ} {xs : List ℕ} → Word x → Small xs → Small (x ∷ xs)
-small-cons {x} {xs} h s = record { word = at }
-  where
-    at : (i : ℕ) → Word (getD (x ∷ xs) i 0)
-    at zero = h
-    at (suc i) = s .word i
-
-pub small-tail : {x : ℕ} {xs : List ℕ} → Small (x ∷ xs) → Small xs
-small-tail s = record { word = λ i. s .word (suc i) }
-
-pub small-append : {xs ys : List ℕ} → Small xs → Small ys → Small (xs ++ ys)
-small-append {xs} {ys} s t = go xs s
-  where
-    go : (l : List ℕ) → Small l → Small (l ++ ys)
-    go [] s = t
-    go (x ∷ l) s = small-cons (s .word 0) (go l (small-tail s))
-
-pub small-zeros : (n : ℕ) → Small (replicate n 0)
-small-zeros zero = small-nil
-small-zeros (suc n) = small-cons (lit< tt) (small-zeros n)
-
-pub small-drop : (n : ℕ) {l : List ℕ} → Small l → Small (drop n l)
-small-drop n {l} s = record { word = λ i. rw (getD-drop n l i 0) (s .word (n + i)) }
-
-pub small-take : (n : ℕ) {l : List ℕ} → Small l → Small (take n l)
-small-take n {l} s = go n l s
-  where
-    go : (n : ℕ) (l : List ℕ) → Small l → Small (take n l)
-    go zero l s = small-nil
-    go (suc n) [] s = small-nil
-    go (suc n) (x ∷ l) s = small-cons (s .word 0) (go n l (small-tail s))
-
-pub small-set : (l : List ℕ) (i v : ℕ) → Small l → Word v → Small (set l i v)
-small-set l i v s h = record { word = λ j. at j (ℕ-discrete j i) (decLt i (length l)) }
-  where
-    at : (j : ℕ) → Dec (j ≡ i) → Dec (i < length l) → Word (getD (set l i v) j 0)
-    at j (no n) d = rw (getD-set-other l i j v 0 n) (s .word j)
-    at j (yes e) (yes l′) = rw (e, getD-set-same l i v 0 l′) h
-    at j (yes e) (no n) = rw (set-out l i v (omega arith)) (s .word j)
-
-pub small-sets : (vs l : List ℕ) (i : ℕ) → Small l → Small vs → Small (sets l i vs)
-small-sets [] l i s t = s
-small-sets (v ∷ vs) l i s t = small-sets vs (set l i v) (suc i) (small-set l i v s (t .word 0)) (small-tail t)
 
 -- ---- a row's effect
 

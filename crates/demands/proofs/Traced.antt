@@ -11,7 +11,9 @@ use borrow.Author.Tests.{lt-ltb, le-ltb, ltb-true, ltb-false}
 use Rattle.tables.specs.Layout.{tableWords}
 use Rattle.tables.specs.Lines.{lines}
 use Rattle.tables.specs.Frames.{Frame, framesOf}
+use Rattle.tables.specs.Small.{Small}
 use Rattle.tables.proofs.Good.{few, few-rows}
+use Rattle.tables.proofs.Small.{small-take, small-drop, small-tail}
 use Rattle.reading.specs.Reader.{framesReply, tableOf}
 use Rattle.reading.specs.declared.Told.{Told}
 use Rattle.choices.specs.declared.Agent.{Agent}
@@ -29,6 +31,7 @@ use Rattle.traces.specs.Output.{Traced, traced, after, stepLine, lastLine, trac
 use Rattle.traces.specs.Calls.{longestOutput, traceInto}
 use Rattle.traces.proofs.Steps.{trace-go, trace-stop}
 use Rattle.reading.proofs.Outcomes.{read-told}
+use Rattle.reading.proofs.ReadSmall.{words-small}
 use Rattle.traces.proofs.Parts.{trace-long, trace-refused, trace-faulty, trace-steps}
 use Rattle.demands.specs.Demand2.{Table, Fitting}
 use Rattle.demands.specs.Steps.{Step, step, stepsFrom, stepsInRun}
@@ -37,8 +40,8 @@ use Rattle.demands.proofs.Demand2.{choice-is-models, start-is-models}
 use Rattle.demands.proofs.Made.{steps-go, steps-stop}
 use Rattle.demands.proofs.Lent.{begins-by, begun-whole}
 use Rattle.demands.proofs.Parsed.{AllPlain, shown-back, last-shows}
-use Rattle.demands.proofs.Small.{Small, small-take, small-drop, small-tail, accepted-small, start-small}
-use Rattle.demands.proofs.TableText.{frames-accepted, words-read, table-read, read-small, choices-small}
+use Rattle.demands.proofs.Small.{accepted-small, start-small}
+use Rattle.demands.proofs.TableText.{frames-accepted, words-read, table-read, choices-small}
 
 -- ---- the text of a run
 
@@ -153,7 +156,7 @@ module _ (input out : List ℕ) (ok : InputAccepted input out) where
   all-plain : AllPlain (stepsFrom rules (startWords rules) choices)
   unfolding badChoiceOf
   all-plain =
-      let small = read-small (tableText input) read in
+      let small = words-small (tableText input) read in
       steps-plain rules table small choices (startWords rules) (start-is-models rules table .0) (start-small rules small)
       (choices-small (choiceLines input) _ (ok .choices))
 

@@ -15,7 +15,7 @@ use Rattle.choices.specs.Effect.{after, receive}
 use Rattle.choices.specs.Fit.{inTime, unfinished}
 use Rattle.choices.specs.Step.{choiceReply, stuck, canGo, accepted, withAgent, withSent}
 use Rattle.executive.specs.Calls.{runRefusal}
-use Rattle.traces.specs.Output.{hexChar, hexDigits}
+use Rattle.digits.specs.Hex.{hexChar, hexDigits}
 use Rattle.demands.specs.Steps.{step, stepsFrom, comesTo, passedInRun}
 use Rattle.demands.specs.Traces.{isStepLine, stepIn, stepsShown}
 

@@ -22,7 +22,7 @@ use Rattle.choices.specs.Fit.{inTime, unfinished}
 use Rattle.choices.specs.Step.{choiceReply, stuck, canGo, accepted, withAgent, withSent}
 use Rattle.executive.specs.Run.{runFrom}
 use Rattle.executive.specs.Calls.{runInto, runRefusal}
-use Rattle.traces.specs.Output.{hexChar, hexDigits}
+use Rattle.digits.specs.Hex.{hexChar, hexDigits}
 
 -- a text of lines, 36 digits each, from the numbers that they stand for, with its end line
 text : List ℕ → List ℕ

@@ -1,19 +1,19 @@
 -- Frames that are in their places: the bounds that hold at each of them. Assumes nothing.
 use mathlib.Core.Path.{_≡_, refl, sym, ap, subst, _∙_}
 use mathlib.Core.Bool.{Bool, true, false}
-use mathlib.Core.List.{List, [], _∷_}
+use mathlib.Core.List.{List, [], _∷_, map}
 use Prim.Native.Nat.{ℕ, _+_, _*_, _≤_, _<_}
 use native.Mathlib.Omega.{arith}
 use lib.Dec.{eqb}
 use lib.ListN.{length, drop}
 use Rattle.tables.specs.Basics.{first}
-use Rattle.tables.specs.Frames.{Frame, opens, gives, ends, malformed, framesOf}
+use Rattle.tables.specs.Frames.{Frame, opens, gives, ends, malformed, frameOf, framesOf}
 use Rattle.tables.specs.Heads.{lineAt, wordsAt}
 use Rattle.reading.specs.Reader.{endRules, inPlace, rowsNext}
 use Rattle.reading.specs.declared.Told.{Told}
 use Rattle.tables.specs.declared.frames.Line.the-variants.{Opens, Gives}
 use Rattle.tables.proofs.Heads.{Framed, framed}
-use Rattle.reading.proofs.Places.{mayOpen, mayGive, open-room, open-after-rows, give-open, give-room, place-open, place-open-not, place-give, place-give-not, place-end-not, end-rows}
+use Rattle.reading.proofs.Places.{mayOpen, mayGive, open-number, open-room, open-after-rows, give-open, give-room, place-open, place-open-not, place-give, place-give-not, place-end, place-end-not, end-rows}
 
 -- frames that are in their places from line n on, after a agents of which the last has i rows
 pub record Placed (n a i : ℕ) (fs : List Frame) : Type 0 where
@@ -43,6 +43,10 @@ module _ (n a i b : ℕ) (ws : List ℕ) (fs : List Frame) where
   -- a further agent: there is room for it
   pub open-agent : Placed n a i (opens b ws ∷ fs) → a < 16
   open-agent q = open-room b a i (open-may q)
+
+  -- it has the next number
+  pub open-next : Placed n a i (opens b ws ∷ fs) → b ≡ a
+  open-next q = open-number b a i (open-may q)
 
   pub open-on : Placed n a i (opens b ws ∷ fs) → Placed (n + 1) (a + 1) 0 fs
   open-on q =
@@ -86,6 +90,21 @@ ends-rows n a i fs q = go (eqb (first (endRules a i)) 0) refl
     go : (t : Bool) → eqb (first (endRules a i)) 0 ≡ t → 0 < i
     go true e = end-rows n a i fs e
     go false e = let z = ap (λ (t : Told). t .reply) (sym (place-end-not n a i fs e)) ∙ q .placed in absurd (omega arith)
+
+-- nothing follows the end line
+pub ends-last : (n a i : ℕ) (fs : List Frame) → Placed n a i (ends ∷ fs) → fs ≡ []
+unfolding first
+ends-last n a i [] q = refl
+ends-last n a i (f ∷ fs) q = go (eqb (first (endRules a i)) 0) refl
+  where
+    go : (t : Bool) → eqb (first (endRules a i)) 0 ≡ t → f ∷ fs ≡ []
+    go true e = let z = ap (λ (t : Told). t .reply) (sym (place-end n a i (f ∷ fs) e)) ∙ q .placed in absurd (omega arith)
+    go false e = let z = ap (λ (t : Told). t .reply) (sym (place-end-not n a i (f ∷ fs) e)) ∙ q .placed in absurd (omega arith)
+
+-- .. so the end line is the last line
+pub last-line : (n a i : ℕ) (ls : List (List ℕ)) → Placed n a i (ends ∷ map frameOf ls) → ls ≡ []
+last-line n a i [] q = refl
+last-line n a i (l ∷ ls) q = absurd (let z = ap length (ends-last n a i (map frameOf (l ∷ ls)) q) in omega arith)
 
 -- an agent has at most 32 rows
 pub rows-fit : (fs : List Frame) (n a i : ℕ) → Placed n a i fs → i + rowsNext fs ≤ 32

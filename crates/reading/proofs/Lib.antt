@@ -11,3 +11,4 @@ pub mod Growing
 pub mod ReadGood
 pub mod Laws
 pub mod Bounds
+pub mod ReadSmall

@@ -81,6 +81,9 @@ module _ (b a i : ℕ) (h : mayOpen b a i ≡ true) where
   none-broken : (k : ℕ) → testAt (openingRules b a i) k ≡ false
   none-broken = passed (openingRules b a i) tt (eqb-true (first (openingRules b a i)) 0 h)
 
+  pub open-number : b ≡ a
+  open-number = eqb-true b a (not-false (eqb b a) (none-broken 0))
+
   pub open-room : a < 16
   open-room = leb-false 16 a (none-broken 1)
 

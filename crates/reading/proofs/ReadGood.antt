@@ -25,13 +25,13 @@ use Rattle.reading.proofs.RowsRead.{good-row, bad-row}
 use Rattle.reading.proofs.Growing.{Closed, Open, after-open, opened, after-give, given, closed, all-facts}
 
 -- opening lines and rows have four words
-abbrev Four : Frame → Type 0
+abbrev pub Four : Frame → Type 0
 Four (opens b ws) = length ws ≡ 4
 Four (gives b ws) = length ws ≡ 4
 Four ends = Unit
 Four (malformed w) = Unit
 
-abbrev Fours : List Frame → Type 0
+abbrev pub Fours : List Frame → Type 0
 Fours [] = Unit
 Fours (f ∷ fs) = Four f × Fours fs
 
@@ -77,7 +77,7 @@ first-built tb (opens b ws ∷ fs) t f q z =
     built fs (after-open tb 0 ws t r (f .0)) 2 0 0 (rowsNext fs) 0 0 (f .1)
     (opened tb 0 ws t r (f .0) (rowsNext fs)) (open-on 1 0 0 b ws fs q) (omega arith) z
 
-zeros : (n k : ℕ) → _≡_ {A = ℕ} (getD (replicate n 0) k 0) 0
+pub zeros : (n k : ℕ) → _≡_ {A = ℕ} (getD (replicate n 0) k 0) 0
 zeros zero k = refl
 zeros (suc n) zero = refl
 zeros (suc n) (suc k) = zeros n k
@@ -101,7 +101,7 @@ frame-four l = go (frameOf l) (tells l)
     go ends t = tt
     go (malformed w) t = tt
 
-frames-four : (ls : List (List ℕ)) → Fours (map frameOf ls)
+pub frames-four : (ls : List (List ℕ)) → Fours (map frameOf ls)
 frames-four [] = tt
 frames-four (l ∷ ls) = (frame-four l, frames-four ls)
 

@@ -4,60 +4,32 @@ use mathlib.Core.List.{List}
 use Prim.Native.Nat.{ℕ, _+_, _*_, _/_, _%_, _^_, _≤_, _<_}
 use native.Mathlib.Omega.{arith}
 use lib.ListN.{length, take, drop, getD}
-use lib.Bits.{bitAnd, and-block, and-mask, and-high}
+use lib.Bits.{bitAnd, and-mask, and-high}
 use mathlib.Core.Bool.{true}
 use Rattle.tables.specs.Lines.{hexDigit, allHex, number, field}
 use Rattle.tables.specs.Heads.{eightBytes}
+use Rattle.tables.proofs.Blocks.{bytesOf, pairsOf, foursOf, bytes-masked, pairs-masked, fours-masked}
 use Rattle.tables.proofs.Lines.{hex-value, hex-below, hex-in, number-next}
 
--- the number of eight bytes, of four pairs of bytes, of two fours
-abbrev bytesOf : (c0 c1 c2 c3 c4 c5 c6 c7 : ℕ) → ℕ
-bytesOf c0 c1 c2 c3 c4 c5 c6 c7 = ((((((c0 * 256 + c1) * 256 + c2) * 256 + c3) * 256 + c4) * 256 + c5) * 256 + c6) * 256 + c7
+-- ---- a mask, block by block
 
-abbrev pairsOf : (p q r s : ℕ) → ℕ
-pairsOf p q r s = ((p * 65536 + q) * 65536 + r) * 65536 + s
-
-abbrev foursOf : (p q : ℕ) → ℕ
-foursOf p q = p * 4294967296 + q
-
--- ---- a mask, byte by byte
-
-byte-and : (a m c s r : ℕ) → c < 256 → s < 256 → bitAnd a m ≡ r → bitAnd (a * 256 + c) (m * 256 + s) ≡ r * 256 + bitAnd c s
-byte-and a m c s r h k e = and-block 8 a m c s h k ∙ ap (λ (q : ℕ). q * 256 + bitAnd c s) e
-
-module _ (c0 c1 c2 c3 c4 c5 c6 c7 : ℕ) (l0 : c0 < 256) (l1 : c1 < 256) (l2 : c2 < 256) (l3 : c3 < 256) (l4 : c4 < 256) (l5 : c5 < 256) (l6 : c6 < 256) (l7 : c7 < 256) where
+module _ (c0 c1 c2 c3 c4 c5 c6 c7 : ℕ) (l1 : c1 < 256) (l2 : c2 < 256) (l3 : c3 < 256) (l4 : c4 < 256) (l5 : c5 < 256) (l6 : c6 < 256) (l7 : c7 < 256) where
   low-half : bitAnd (bytesOf c0 c1 c2 c3 c4 c5 c6 c7) 0x0F0F0F0F0F0F0F0F ≡ bytesOf (c0 % 16) (c1 % 16) (c2 % 16) (c3 % 16) (c4 % 16) (c5 % 16) (c6 % 16) (c7 % 16)
   low-half =
-      byte-and ((((((c0 * 256 + c1) * 256 + c2) * 256 + c3) * 256 + c4) * 256 + c5) * 256 + c6) 0x0F0F0F0F0F0F0F c7 15 _ l7 (omega arith)
-      (byte-and (((((c0 * 256 + c1) * 256 + c2) * 256 + c3) * 256 + c4) * 256 + c5) 0x0F0F0F0F0F0F c6 15 _ l6 (omega arith)
-      (byte-and ((((c0 * 256 + c1) * 256 + c2) * 256 + c3) * 256 + c4) 0x0F0F0F0F0F c5 15 _ l5 (omega arith)
-      (byte-and (((c0 * 256 + c1) * 256 + c2) * 256 + c3) 0x0F0F0F0F c4 15 _ l4 (omega arith)
-      (byte-and ((c0 * 256 + c1) * 256 + c2) 0x0F0F0F c3 15 _ l3 (omega arith)
-      (byte-and (c0 * 256 + c1) 0x0F0F c2 15 _ l2 (omega arith)
-      (byte-and c0 0x0F c1 15 _ l1 (omega arith) refl))))))
+      bytes-masked 15 (omega arith) c0 c1 c2 c3 c4 c5 c6 c7 l1 l2 l3 l4 l5 l6 l7
       ∙ rw (and-mask c0 4, and-mask c1 4, and-mask c2 4, and-mask c3 4, and-mask c4 4, and-mask c5 4, and-mask c6 4, and-mask c7 4)
 
   letter-bit : bitAnd (bytesOf c0 c1 c2 c3 c4 c5 c6 c7) 0x4040404040404040 ≡ bytesOf (c0 / 64 % 2 * 64) (c1 / 64 % 2 * 64) (c2 / 64 % 2 * 64) (c3 / 64 % 2 * 64) (c4 / 64 % 2 * 64) (c5 / 64 % 2 * 64) (c6 / 64 % 2 * 64) (c7 / 64 % 2 * 64)
   letter-bit =
-      byte-and ((((((c0 * 256 + c1) * 256 + c2) * 256 + c3) * 256 + c4) * 256 + c5) * 256 + c6) 0x40404040404040 c7 64 _ l7 (omega arith)
-      (byte-and (((((c0 * 256 + c1) * 256 + c2) * 256 + c3) * 256 + c4) * 256 + c5) 0x404040404040 c6 64 _ l6 (omega arith)
-      (byte-and ((((c0 * 256 + c1) * 256 + c2) * 256 + c3) * 256 + c4) 0x4040404040 c5 64 _ l5 (omega arith)
-      (byte-and (((c0 * 256 + c1) * 256 + c2) * 256 + c3) 0x40404040 c4 64 _ l4 (omega arith)
-      (byte-and ((c0 * 256 + c1) * 256 + c2) 0x404040 c3 64 _ l3 (omega arith)
-      (byte-and (c0 * 256 + c1) 0x4040 c2 64 _ l2 (omega arith)
-      (byte-and c0 0x40 c1 64 _ l1 (omega arith) refl))))))
+      bytes-masked 64 (omega arith) c0 c1 c2 c3 c4 c5 c6 c7 l1 l2 l3 l4 l5 l6 l7
       ∙ rw (and-high c0 1 6, and-high c1 1 6, and-high c2 1 6, and-high c3 1 6, and-high c4 1 6, and-high c5 1 6, and-high c6 1 6, and-high c7 1 6)
 
 module _ (p q r s : ℕ) (l : q < 65536) (m : r < 65536) (n : s < 65536) where
   pair-low : bitAnd (pairsOf p q r s) 0x00FF00FF00FF00FF ≡ pairsOf (p % 256) (q % 256) (r % 256) (s % 256)
-  pair-low =
-      and-block 16 ((p * 65536 + q) * 65536 + r) 0x00FF00FF00FF s 0x00FF n (omega arith)
-      ∙ ap (λ (t : ℕ). t * 65536 + bitAnd s 0x00FF) (and-block 16 (p * 65536 + q) 0x00FF00FF r 0x00FF m (omega arith)
-      ∙ ap (λ (t : ℕ). t * 65536 + bitAnd r 0x00FF) (and-block 16 p 0x00FF q 0x00FF l (omega arith)))
-      ∙ rw (and-mask p 8, and-mask q 8, and-mask r 8, and-mask s 8)
+  pair-low = pairs-masked 0x00FF (omega arith) p q r s l m n ∙ rw (and-mask p 8, and-mask q 8, and-mask r 8, and-mask s 8)
 
 four-low : (p q : ℕ) → q < 4294967296 → bitAnd (foursOf p q) 0x0000FFFF0000FFFF ≡ foursOf (p % 65536) (q % 65536)
-four-low p q l = and-block 32 p 0xFFFF q 0xFFFF l (omega arith) ∙ rw (and-mask p 16, and-mask q 16)
+four-low p q l = fours-masked 0xFFFF (omega arith) p q l ∙ rw (and-mask p 16, and-mask q 16)
 
 -- ---- the digits moved together
 
@@ -123,7 +95,7 @@ wordIn z = (z + z / 65536) % 4294967296
 module _ (c0 c1 c2 c3 c4 c5 c6 c7 : ℕ) (k0 : hexDigit c0 < 16) (k1 : hexDigit c1 < 16) (k2 : hexDigit c2 < 16) (k3 : hexDigit c3 < 16) (k4 : hexDigit c4 < 16) (k5 : hexDigit c5 < 16) (k6 : hexDigit c6 < 16) (k7 : hexDigit c7 < 16) where
   to-digits : digitsIn (bytesOf c0 c1 c2 c3 c4 c5 c6 c7) ≡ bytesOf (hexDigit c0) (hexDigit c1) (hexDigit c2) (hexDigit c3) (hexDigit c4) (hexDigit c5) (hexDigit c6) (hexDigit c7)
   to-digits =
-      rw (low-half c0 c1 c2 c3 c4 c5 c6 c7 (byte-below c0 k0) (byte-below c1 k1) (byte-below c2 k2) (byte-below c3 k3) (byte-below c4 k4) (byte-below c5 k5) (byte-below c6 k6) (byte-below c7 k7), letter-bit c0 c1 c2 c3 c4 c5 c6 c7 (byte-below c0 k0) (byte-below c1 k1) (byte-below c2 k2) (byte-below c3 k3) (byte-below c4 k4) (byte-below c5 k5) (byte-below c6 k6) (byte-below c7 k7))
+      rw (low-half c0 c1 c2 c3 c4 c5 c6 c7 (byte-below c1 k1) (byte-below c2 k2) (byte-below c3 k3) (byte-below c4 k4) (byte-below c5 k5) (byte-below c6 k6) (byte-below c7 k7), letter-bit c0 c1 c2 c3 c4 c5 c6 c7 (byte-below c1 k1) (byte-below c2 k2) (byte-below c3 k3) (byte-below c4 k4) (byte-below c5 k5) (byte-below c6 k6) (byte-below c7 k7))
       (split-letters (c0 % 16) (c1 % 16) (c2 % 16) (c3 % 16) (c4 % 16) (c5 % 16) (c6 % 16) (c7 % 16) (c0 / 64 % 2) (c1 / 64 % 2) (c2 / 64 % 2) (c3 / 64 % 2) (c4 / 64 % 2) (c5 / 64 % 2) (c6 / 64 % 2) (c7 / 64 % 2)
       ∙ rw (value-of c0 k0, value-of c1 k1, value-of c2 k2, value-of c3 k3, value-of c4 k4, value-of c5 k5, value-of c6 k6, value-of c7 k7))
 

@@ -12,4 +12,6 @@ pub mod Judging
 pub mod TableLine
 pub mod Heads
 pub mod Sound
+pub mod Small
+pub mod Blocks
 pub mod Digits

@@ -119,7 +119,7 @@ hex-at (x ∷ l) zero i e h k = absurd (omega arith)
 hex-at (x ∷ l) (suc n) zero e h k = ltb-true (hexDigit x) 16 (and-1 (ltb (hexDigit x) 16) (allHex (take n l)) e)
 hex-at (x ∷ l) (suc n) (suc i) e h k = hex-at l n i (and-2 (ltb (hexDigit x) 16) (allHex (take n l)) e) (omega arith) (omega arith)
 
-number-suc : (m : ℕ) (l : List ℕ) (n : ℕ) → n < length l → number m (take (suc n) l) ≡ 16 * number m (take n l) + hexDigit (getD l n 0)
+pub number-suc : (m : ℕ) (l : List ℕ) (n : ℕ) → n < length l → number m (take (suc n) l) ≡ 16 * number m (take n l) + hexDigit (getD l n 0)
 unfolding number
 number-suc m [] n h = absurd (omega arith)
 number-suc m (x ∷ l) zero h = refl

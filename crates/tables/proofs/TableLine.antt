@@ -2,10 +2,11 @@
 use mathlib.Core.Path.{_≡_, refl, sym, subst, _∙_}
 use mathlib.Core.Bool.{Bool, true, false, cond}
 use mathlib.Core.List.{List, [], _∷_}
-use mathlib.Core.Logic.{inl, inr}
+use mathlib.Core.Logic.{_⊎_, inl, inr}
 use Prim.Native.Nat.{ℕ, _+_, _*_, _<_}
 use native.Mathlib.Omega.{arith}
 use lib.Dec.{eqb}
+use borrow.Author.Tests.{eqb-true, eqb-false}
 use Rattle.tables.specs.Lines.{newline, same, endLine, hexDigit, field, digitsLine}
 use Rattle.tables.specs.Faults.{beginsWith, judgeKind, judge}
 use Rattle.tables.specs.Frames.{Frame, opens, gives, ends, malformed, fourWords, knownInTables, frameOf}
@@ -87,33 +88,42 @@ ff-end (a ∷ b ∷ l) h e =
     let r : l ≡ newline ∷ [] = line-end 2 s h in
     rw (hex-char a 15 f (omega arith), hex-char b 15 g (omega arith), r) (same-self endLine)
 
--- a sound line of a table that is not its end line is 36 digits
-sound-digits : (l : List ℕ) → same l endLine ≡ false → judge knownInTables l ≡ Sound → digitsLine 36 l ≡ true
+-- a sound line of a table that is not its end line is 36 digits, and begins with 00 or 01
+sound-digits : (l : List ℕ) → same l endLine ≡ false → judge knownInTables l ≡ Sound → (digitsLine 36 l ≡ true) × ((field l 0 2 ≡ 0x00) ⊎ (field l 0 2 ≡ 0x01))
 sound-digits l h e = go (sound-among knownInTables l e)
   where
-    go : Among knownInTables l → digitsLine 36 l ≡ true
-    go (inl w) = w .0
-    go (inr (inl w)) = w .0
+    go : Among knownInTables l → (digitsLine 36 l ≡ true) × ((field l 0 2 ≡ 0x00) ⊎ (field l 0 2 ≡ 0x01))
+    go (inl w) = (w .0, inl (w .1))
+    go (inr (inl w)) = (w .0, inr (w .1))
     go (inr (inr (inl w))) = absurd (not-both (sym (ff-end l (w .0) (w .1)) ∙ h))
     go (inr (inr (inr w))) = absurd w
 
+-- a line of 36 digits that gives an agent's number and four words
+abbrev Gave : List ℕ → ℕ → List ℕ → ℕ → Type 0
+Gave l b ws kind = (same l endLine ≡ false) × (digitsLine 36 l ≡ true) × (ws ≡ fourWords l) × (b ≡ field l 2 2) × (field l 0 2 ≡ kind)
+
 -- what a frame tells of its line
 abbrev pub Tells : List ℕ → Frame → Type 0
-Tells l (opens b ws) = (same l endLine ≡ false) × (digitsLine 36 l ≡ true) × (ws ≡ fourWords l)
-Tells l (gives b ws) = (same l endLine ≡ false) × (digitsLine 36 l ≡ true) × (ws ≡ fourWords l)
+Tells l (opens b ws) = Gave l b ws 0x00
+Tells l (gives b ws) = Gave l b ws 0x01
 Tells l ends = same l endLine ≡ true
 Tells l (malformed w) = judge knownInTables l ≡ Faulty w
 
 pub tells : (l : List ℕ) → Tells l (frameOf l)
 tells l = go (same l endLine) refl (judge knownInTables l) refl
   where
-    either : (z : Bool) → same l endLine ≡ false → digitsLine 36 l ≡ true → Tells l (cond z (opens (field l 2 2) (fourWords l)) (gives (field l 2 2) (fourWords l)))
-    either true h d = (h, d, refl)
-    either false h d = (h, d, refl)
+    one : eqb (field l 0 2) 0x00 ≡ false → (field l 0 2 ≡ 0x00) ⊎ (field l 0 2 ≡ 0x01) → field l 0 2 ≡ 0x01
+    one e (inl z) = absurd (eqb-false (field l 0 2) 0x00 e z)
+    one e (inr o) = o
+
+    either : (z : Bool) → eqb (field l 0 2) 0x00 ≡ z → same l endLine ≡ false → (digitsLine 36 l ≡ true) × ((field l 0 2 ≡ 0x00) ⊎ (field l 0 2 ≡ 0x01))
+        → Tells l (cond z (opens (field l 2 2) (fourWords l)) (gives (field l 2 2) (fourWords l)))
+    either true e h d = (h, d .0, refl, refl, eqb-true (field l 0 2) 0x00 e)
+    either false e h d = (h, d .0, refl, refl, one e (d .1))
 
     go : (b : Bool) → same l endLine ≡ b → (j : Judged) → judge knownInTables l ≡ j → Tells l (frameOf l)
     go true h j q = subst (Tells l) (sym (frame-end l h)) h
-    go false h Sound q = subst (Tells l) (sym (frame-sound l h q)) (either (eqb (field l 0 2) 0) h (sound-digits l h q))
+    go false h Sound q = subst (Tells l) (sym (frame-sound l h q)) (either (eqb (field l 0 2) 0x00) refl h (sound-digits l h q))
     go false h (Faulty w) q = subst (Tells l) (sym (frame-faulty l h w q)) q
 
 -- the frame of a line with a fault

@@ -31,6 +31,8 @@ pub const FOURTH_WORD: usize = 28;
 const END_DIGITS: usize = 2;
 
 pub const END_BYTES: usize = END_DIGITS + 1;
+// The end line, as it is read and as it is written.
+pub const END_LINE: [u8; END_BYTES] = [b'F', b'F', b'\n'];
 // The first bytes of a table's lines, each followed by the digits of its line.
 const KNOWN_IN_TABLES: [usize; 6] = [0x00, FRAME_DIGITS, 0x01, FRAME_DIGITS, 0xFF, END_DIGITS];
 
@@ -65,9 +67,9 @@ pub fn is_end(text: &[u8], at: usize) -> bool
     ensures { λ r. ⌜ r ≡ endAt (now (text .entry)) at ⌝ }
 {
     if text.len() - at < END_BYTES {
-        return same(&text[at..], b"FF\n");
+        return same(&text[at..], &END_LINE);
     }
-    same(&text[at..at + END_BYTES], b"FF\n")
+    same(&text[at..at + END_BYTES], &END_LINE)
 }
 
 // 1 for a byte that is no digit, else 0.

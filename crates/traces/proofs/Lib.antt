@@ -1,5 +1,4 @@
 -- Laws that the proofs of several functions cite.
-pub mod Writes
 pub mod Places
 pub mod Choices
 pub mod Steps

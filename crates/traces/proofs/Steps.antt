@@ -13,7 +13,7 @@ use Rattle.executive.specs.Run.{ended}
 use Rattle.traces.specs.Output.{Traced, traced, after, stepLine, lastLine, traceFrom}
 use Rattle.traces.specs.Calls.{written}
 use Rattle.traces.specs.Places.{placed}
-use Rattle.traces.proofs.Writes.{sets-append, hexDigits-length, hexWords-length, from-start}
+use Rattle.digits.proofs.Writes.{sets-append, hexDigits-length, hexWords-length, from-start}
 
 -- ---- lengths
 

@@ -18,7 +18,8 @@ use Rattle.choices.specs.Effect.{after, receive}
 use Rattle.choices.specs.Fit.{inTime, unfinished}
 use Rattle.choices.specs.Step.{choiceReply, stuck, canGo, accepted, withAgent, withSent}
 use Rattle.traces.specs.Input.{tableBytes, tableText, choiceLines, knownInChoices, badChoice, badChoiceOf, choicesIn}
-use Rattle.traces.specs.Output.{hexChar, hexDigits, hexWords, stepLine, lastLine, traceFrom, traceChoices, refusedOr, traceOf}
+use Rattle.digits.specs.Hex.{hexChar, hexDigits, hexWords}
+use Rattle.traces.specs.Output.{stepLine, lastLine, traceFrom, traceChoices, refusedOr, traceOf}
 
 -- a line of k digits
 line : (k m : ℕ) → List ℕ

@@ -1,31 +1,18 @@
 -- The trace program's output bytes. Assumes nothing.
-use mathlib.Core.Bool.{true, false, cond}
+use mathlib.Core.Bool.{true, false}
 use mathlib.Core.List.{List, [], _∷_, _++_}
-use Prim.Native.Nat.{ℕ, zero, suc, _+_, _/_, _%_}
+use Prim.Native.Nat.{ℕ, zero, suc, _+_}
 use lib.Dec.{ltb}
 use lib.ListN.{length, replicate}
 use Rattle.tables.specs.Lines.{newline}
 use Rattle.tables.specs.Layout.{tableWords}
+use Rattle.digits.specs.Hex.{hexDigits, hexWords}
 use Rattle.reading.specs.Calls.{readInto}
 use Rattle.reading.specs.declared.Told.{Told}
 use Rattle.choices.specs.State.{startWords, agentAt}
 use Rattle.choices.specs.Step.{choiceReply, accepted}
 use Rattle.choices.specs.declared.Agent.{Agent}
 use Rattle.traces.specs.Input.{longestInput, tableText, choiceLines, badChoiceOf, choicesIn}
-
--- the upper-case hexadecimal digit of a number below 16
-unfoldable pub hexChar : ℕ → ℕ
-hexChar d = cond (ltb d 10) (48 + d) (55 + d)
-
--- the k lowest hexadecimal digits of a number, the highest first
-unfoldable pub hexDigits : (k m : ℕ) → List ℕ
-hexDigits zero m = []
-hexDigits (suc k) m = hexDigits k (m / 16) ++ (hexChar (m % 16) ∷ [])
-
--- registers, 4 bytes each
-unfoldable pub hexWords : List ℕ → List ℕ
-hexWords [] = []
-hexWords (w ∷ ws) = hexDigits 8 w ++ hexWords ws
 
 -- "for each accepted step `03`, agent, new position (1 byte), time, four registers"
 unfoldable pub stepLine : (a t : ℕ) → Agent → List ℕ

@@ -4,8 +4,9 @@ use mathlib.Core.Path.{refl, _∙_}
 use mathlib.Core.List.{[], _∷_, _++_}
 use Prim.Native.Nat.{_+_}
 use lib.ListN.{set, length-set}
-use Rattle.traces.specs.Output.{hexDigits, lastLine}
-use Rattle.traces.proofs.Writes.{digits-then}
+use Rattle.digits.specs.Hex.{hexDigits}
+use Rattle.traces.specs.Output.{lastLine}
+use Rattle.digits.proofs.Writes.{digits-then}
 use borrow.Author.Needs.{needs}
 use Rattle.traces.proofs.writing.put_last_line.Statement.{statement}
 use Rattle.traces.proofs.writing.put_last_line.Tie as tie

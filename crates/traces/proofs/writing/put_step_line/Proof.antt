@@ -4,8 +4,9 @@ use mathlib.Core.Path.{_≡_, refl, _∙_}
 use mathlib.Core.List.{[], _∷_, _++_}
 use Prim.Native.Nat.{_+_, _*_}
 use lib.ListN.{length, set, length-set}
-use Rattle.traces.specs.Output.{hexDigits, hexWords, stepLine}
-use Rattle.traces.proofs.Writes.{digits-then, run-then, hexWords-length}
+use Rattle.digits.specs.Hex.{hexDigits, hexWords}
+use Rattle.digits.proofs.Writes.{digits-then, run-then, hexWords-length}
+use Rattle.traces.specs.Output.{stepLine}
 use borrow.Author.Needs.{needs}
 use Rattle.traces.proofs.writing.put_step_line.Statement.{statement}
 use Rattle.traces.proofs.writing.put_step_line.Tie as tie
@@ -25,17 +26,17 @@ add-put-hex-2 c = search needs
 put-hex-requires-3 : tie.Need-put-hex-requires-3
 put-hex-requires-3 c κs = search needs
 
-add-put-hex-3 : tie.Need-add-put-hex-3
-add-put-hex-3 c = search needs
+add-put-word : tie.Need-add-put-word
+add-put-word c = search needs
 
-put-hex-requires-4 : tie.Need-put-hex-requires-4
-put-hex-requires-4 c κs = search needs
+put-word-requires : tie.Need-put-word-requires
+put-word-requires c κs = search needs
 
-add-put-words : tie.Need-add-put-words
-add-put-words c = search needs
+add-put-registers : tie.Need-add-put-registers
+add-put-registers c = search needs
 
-put-words-requires : tie.Need-put-words-requires
-put-words-requires c κs = search needs
+put-registers-requires : tie.Need-put-registers-requires
+put-registers-requires c κs = search needs
 
 add-out : tie.Need-add-out
 add-out c = search needs
@@ -45,9 +46,9 @@ slice-write-out c = search needs
 
 same-length : tie.Need-same-length
 same-length c =
-    length-set (c .before .before .put-words .last .0) _ _
-    ∙ c .before .before .put-words .kept .0
-    ∙ c .before .before .before .before .before .before .put-hex4 .kept .0
+    length-set (c .before .before .put-registers .last .0) _ _
+    ∙ c .before .before .put-registers .kept .0
+    ∙ c .before .before .before .before .before .before .put-word .kept .0
     ∙ c .before .before .before .before .before .before .before .before .before .before .put-hex3 .kept .0
     ∙ c .before .before .before .before .before .before .before .before .before .before .before .before .before .before .put-hex2 .kept .0
     ∙ c .before .before .before .before .before .before .before .before .before .before .before .before .before .before .before .before .before .before .put-hex .kept .0
@@ -55,8 +56,8 @@ same-length c =
 returns : tie.Need-returns
 unfolding stepLine
 returns c =
-    let p₅ = c .before .before .put-words in
-    let p₄ = c .before .before .before .before .before .before .put-hex4 in
+    let p₅ = c .before .before .put-registers in
+    let p₄ = c .before .before .before .before .before .before .put-word in
     let p₃ = c .before .before .before .before .before .before .before .before .before .before .put-hex3 in
     let p₂ = c .before .before .before .before .before .before .before .before .before .before .before .before .before .before .put-hex2 in
     let p₁ = c .before .before .before .before .before .before .before .before .before .before .before .before .before .before .before .before .before .before .put-hex in
@@ -85,10 +86,10 @@ put-step-line-spec =
     put-hex-requires-2
     add-put-hex-2
     put-hex-requires-3
-    add-put-hex-3
-    put-hex-requires-4
-    add-put-words
-    put-words-requires
+    add-put-word
+    put-word-requires
+    add-put-registers
+    put-registers-requires
     add-out
     slice-write-out
     same-length

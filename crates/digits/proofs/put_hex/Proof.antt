@@ -6,10 +6,10 @@ use mathlib.Core.Path.{_≡_, refl, ap, _∙_}
 use Prim.Native.Nat.{ℕ, _+_, _≤_}
 use lib.ListN.{length, length-set}
 use lib.Seq.{sets}
-use Rattle.traces.specs.Output.{hexDigits}
-use Rattle.traces.proofs.Writes.{lowest-first}
-use Rattle.traces.proofs.writing.put_hex.Statement.{statement}
-use Rattle.traces.proofs.writing.put_hex.Tie as tie
+use Rattle.digits.specs.Hex.{hexDigits}
+use Rattle.digits.proofs.Writes.{lowest-first}
+use Rattle.digits.proofs.put_hex.Statement.{statement}
+use Rattle.digits.proofs.put_hex.Tie as tie
 
 abbrev Inv-loop : tie.InvT-loop
 Inv-loop out₀ at k m i₀ v₀ out i v = (i ≤ k) × (length out ≡ length out₀) × (sets out at (hexDigits i v) ≡ sets out₀ at (hexDigits k m))

@@ -5,9 +5,9 @@ use Prim.Native.Nat.{ℕ, zero, suc, _+_, _*_, _/_, _%_, _≤_, _<_}
 use native.Mathlib.Nat.{add-zero, zero-add}
 use native.Mathlib.Numerals.{add-one}
 use native.Mathlib.Omega.{arith}
-use lib.ListN.{length, set, drop, getD, length-append}
-use lib.Seq.{sets, set-comm, sets-eq, drop-cons}
-use Rattle.traces.specs.Output.{hexChar, hexDigits, hexWords}
+use lib.ListN.{length, set, getD, drop, length-append}
+use lib.Seq.{sets, set-comm, sets-eq}
+use Rattle.digits.specs.Hex.{hexChar, hexDigits, hexWords}
 
 pub sets-append : (a b l : List ℕ) (i : ℕ) → sets l i (a ++ b) ≡ sets (sets l i a) (i + length a) b
 sets-append [] b l i = rw add-zero
@@ -39,17 +39,6 @@ unfolding hexWords
 hexWords-length [] = refl
 hexWords-length (w ∷ ws) = length-append (hexDigits 8 w) (hexWords ws) ∙ rw (hexDigits-length 8 w, hexWords-length ws) (omega arith)
 
--- the next of some words, and then the words that are left
-pub word-next : (ws l m : List ℕ) (at i : ℕ) → i < length ws → m ≡ sets l (at + 8 * i) (hexDigits 8 (getD ws i 0))
-    → sets m (at + 8 * (i + 1)) (hexWords (drop (i + 1) ws)) ≡ sets l (at + 8 * i) (hexWords (drop i ws))
-unfolding hexWords
-word-next ws l m at i h e =
-    let j = at + 8 * (i + 1) in
-    let rest = hexWords (drop (i + 1) ws) in
-    let f : i + 1 ≡ suc i = omega arith in
-    digits-then 8 (getD ws i 0) l m (sets m j rest) rest (at + 8 * i) j e (omega arith) refl
-    ∙ rw (f, drop-cons ws i 0 h)
-
 -- the lowest digit may be written first
 pub lowest-first : (l : List ℕ) (at k m : ℕ) → sets (set l (at + k) (hexChar (m % 16))) at (hexDigits k (m / 16)) ≡ sets l at (hexDigits (k + 1) m)
 unfolding hexDigits
@@ -62,3 +51,12 @@ lowest-first l at k m =
 -- a run from the start of a buffer, and what stands after it
 pub from-start : (l bs : List ℕ) → length bs ≤ length l → sets l 0 bs ≡ bs ++ drop (length bs) l
 from-start l bs h = sets-eq bs l 0 (rw zero-add h) ∙ rw zero-add
+
+-- four words, one by one
+pub four-of : (l : List ℕ) → length l ≡ 4 → l ≡ getD l 0 0 ∷ getD l 1 0 ∷ getD l 2 0 ∷ getD l 3 0 ∷ []
+four-of [] e = absurd (omega arith)
+four-of (a ∷ []) e = absurd (omega arith)
+four-of (a ∷ b ∷ []) e = absurd (omega arith)
+four-of (a ∷ b ∷ c ∷ []) e = absurd (omega arith)
+four-of (a ∷ b ∷ c ∷ d ∷ []) e = refl
+four-of (a ∷ b ∷ c ∷ d ∷ f ∷ l) e = absurd (omega arith)

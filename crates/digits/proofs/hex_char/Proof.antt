@@ -1,9 +1,9 @@
 -- `hex_char` meets its contract. Assumes nothing.
 use borrow.Author.Tests.{lt-ltb, le-ltb}
-use Rattle.traces.specs.Output.{hexChar}
+use Rattle.digits.specs.Hex.{hexChar}
 use borrow.Author.Needs.{needs}
-use Rattle.traces.proofs.writing.hex_char.Statement.{statement}
-use Rattle.traces.proofs.writing.hex_char.Tie as tie
+use Rattle.digits.proofs.hex_char.Statement.{statement}
+use Rattle.digits.proofs.hex_char.Tie as tie
 
 add-result : tie.Need-add-result
 add-result c = search needs

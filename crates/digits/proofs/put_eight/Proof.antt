@@ -1,0 +1,129 @@
+-- `put_eight` meets its contract. Assumes nothing.
+use mathlib.Core.Path.{_≡_}
+use mathlib.Core.List.{List, [], _∷_}
+use Prim.Native.Nat.{ℕ, suc, _+_}
+use native.Mathlib.Numerals.{add-one}
+use native.Mathlib.Omega.{arith}
+use lib.ListN.{set, length-set}
+use lib.Seq.{sets}
+use borrow.Author.Needs.{needs}
+use Rattle.digits.proofs.put_eight.Statement.{statement}
+use Rattle.digits.proofs.put_eight.Tie as tie
+
+cast-out : tie.Need-cast-out
+cast-out c = search needs
+
+slice-write-out : tie.Need-slice-write-out
+slice-write-out c = search needs
+
+cast-out-2 : tie.Need-cast-out-2
+cast-out-2 c = search needs
+
+add-out : tie.Need-add-out
+add-out c = search needs
+
+slice-write-out-2 : tie.Need-slice-write-out-2
+slice-write-out-2 c = simp length-set (omega arith)
+
+cast-out-3 : tie.Need-cast-out-3
+cast-out-3 c = search needs
+
+add-out-2 : tie.Need-add-out-2
+add-out-2 c = search needs
+
+slice-write-out-3 : tie.Need-slice-write-out-3
+slice-write-out-3 c = simp length-set (omega arith)
+
+cast-out-4 : tie.Need-cast-out-4
+cast-out-4 c = search needs
+
+add-out-3 : tie.Need-add-out-3
+add-out-3 c = search needs
+
+slice-write-out-4 : tie.Need-slice-write-out-4
+slice-write-out-4 c = simp length-set (omega arith)
+
+cast-out-5 : tie.Need-cast-out-5
+cast-out-5 c = search needs
+
+add-out-4 : tie.Need-add-out-4
+add-out-4 c = search needs
+
+slice-write-out-5 : tie.Need-slice-write-out-5
+slice-write-out-5 c = simp length-set (omega arith)
+
+cast-out-6 : tie.Need-cast-out-6
+cast-out-6 c = search needs
+
+add-out-5 : tie.Need-add-out-5
+add-out-5 c = search needs
+
+slice-write-out-6 : tie.Need-slice-write-out-6
+slice-write-out-6 c = simp length-set (omega arith)
+
+cast-out-7 : tie.Need-cast-out-7
+cast-out-7 c = search needs
+
+add-out-6 : tie.Need-add-out-6
+add-out-6 c = search needs
+
+slice-write-out-7 : tie.Need-slice-write-out-7
+slice-write-out-7 c = simp length-set (omega arith)
+
+cast-out-8 : tie.Need-cast-out-8
+cast-out-8 c = search needs
+
+add-out-7 : tie.Need-add-out-7
+add-out-7 c = search needs
+
+slice-write-out-8 : tie.Need-slice-write-out-8
+slice-write-out-8 c = simp length-set (omega arith)
+
+same-length : tie.Need-same-length
+same-length c = simp length-set
+
+-- eight stores in a row
+stored : (l : List ℕ) (p a b c d e f g h : ℕ)
+    → set (set (set (set (set (set (set (set l p a) (p + 1) b) (p + 2) c) (p + 3) d) (p + 4) e) (p + 5) f) (p + 6) g) (p + 7) h
+    ≡ sets l p (a ∷ b ∷ c ∷ d ∷ e ∷ f ∷ g ∷ h ∷ [])
+stored l p a b c d e f g h =
+    let two : p + 2 ≡ suc (suc p) = omega arith in
+    let three : p + 3 ≡ suc (suc (suc p)) = omega arith in
+    let four : p + 4 ≡ suc (suc (suc (suc p))) = omega arith in
+    let five : p + 5 ≡ suc (suc (suc (suc (suc p)))) = omega arith in
+    let six : p + 6 ≡ suc (suc (suc (suc (suc (suc p))))) = omega arith in
+    let seven : p + 7 ≡ suc (suc (suc (suc (suc (suc (suc p)))))) = omega arith in
+    rw (add-one p, two, three, four, five, six, seven)
+
+returns : tie.Need-returns
+returns c = let g = c .args in stored (g .out .now) (g .at) _ _ _ _ _ _ _ _
+
+pub put-eight-spec : {M : Type 1} → statement M
+put-eight-spec =
+    tie.close
+    (tie.spec
+    cast-out
+    slice-write-out
+    cast-out-2
+    add-out
+    slice-write-out-2
+    cast-out-3
+    add-out-2
+    slice-write-out-3
+    cast-out-4
+    add-out-3
+    slice-write-out-4
+    cast-out-5
+    add-out-4
+    slice-write-out-5
+    cast-out-6
+    add-out-5
+    slice-write-out-6
+    cast-out-7
+    add-out-6
+    slice-write-out-7
+    cast-out-8
+    add-out-7
+    slice-write-out-8
+    same-length
+    returns)

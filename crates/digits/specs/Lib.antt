@@ -1,0 +1,3 @@
+-- What a reader of this crate must believe, lowest first.
+pub mod Hex
+pub mod Eight

@@ -1,0 +1,55 @@
+-- The outcome of a write, by the reply of `check` and the room that there is. Assumes nothing.
+use mathlib.Core.Path.{_≡_, refl, sym, ap, _∙_}
+use mathlib.Core.Bool.{Bool, true, false}
+use mathlib.Core.List.{List, _++_}
+use Prim.Native.Nat.{ℕ, zero, suc, _≤_, _<_}
+use native.Mathlib.Omega.{arith}
+use lib.Dec.{ltb}
+use lib.ListN.{length, take, drop}
+use borrow.Author.Tests.{lt-ltb, le-ltb, ltb-true, ltb-false}
+use Rattle.tables.specs.Layout.{tableWords}
+use Rattle.tables.specs.Calls.{checkReply}
+use Rattle.writing.specs.Writer.{textOf}
+use Rattle.writing.specs.Calls.{WriteOutcome, wrote, writeOutcome, bytesInto, writeInto}
+
+module _ (bs text : List ℕ) where
+  no-room : length text < length bs → bytesInto bs text ≡ writeOutcome (wrote 20 (length bs)) text
+  unfolding bytesInto
+  no-room h = rw (lt-ltb _ _ h, bytesInto)
+
+  with-room : length bs ≤ length text → bytesInto bs text ≡ writeOutcome (wrote 0 (length bs)) (bs ++ drop (length bs) text)
+  unfolding bytesInto
+  with-room h = rw (le-ltb _ _ h, bytesInto)
+
+module _ (tb text : List ℕ) where
+  abbrev bytes : List ℕ
+  bytes = textOf (take tableWords tb)
+
+  abbrev byReply : ℕ → WriteOutcome
+  byReply m = elim m [ zero ↦ bytesInto bytes text | suc r ↦ writeOutcome (wrote (suc r) 0) text ]
+
+  pub table-refused : (r : ℕ) → r ≡ checkReply tb → (r ≡ 0 → ⊥) → writeOutcome (wrote r 0) text ≡ writeInto tb text
+  unfolding writeInto
+  table-refused zero e k = absurd (k refl)
+  table-refused (suc r) e k = ap byReply e
+
+  module _ (ok : checkReply tb ≡ 0) where
+    accepted : writeInto tb text ≡ bytesInto bytes text
+    unfolding writeInto
+    accepted = ap byReply ok
+
+    pub too-long : length text < length bytes → writeInto tb text ≡ writeOutcome (wrote 20 (length bytes)) text
+    too-long h = accepted ∙ no-room bytes text h
+
+    pub all-written : length bytes ≤ length text → writeInto tb text ≡ writeOutcome (wrote 0 (length bytes)) (bytes ++ drop (length bytes) text)
+    all-written h = accepted ∙ with-room bytes text h
+
+  -- ---- a write that was accepted
+
+  pub accepted-write : writeInto tb text .wrote .reply ≡ 0 → (checkReply tb ≡ 0) × (length bytes ≤ length text)
+  accepted-write z = go (checkReply tb) refl (ltb (length text) (length bytes)) refl
+    where
+      go : (r : ℕ) → checkReply tb ≡ r → (b : Bool) → ltb (length text) (length bytes) ≡ b → (r ≡ 0) × (length bytes ≤ length text)
+      go zero e true h = let y = ap (λ (o : WriteOutcome). o .wrote .reply) (sym (too-long e (ltb-true _ _ h))) ∙ z in absurd (omega arith)
+      go zero e false h = (refl, ltb-false _ _ h)
+      go (suc r) e b h = let y = ap (λ (o : WriteOutcome). o .wrote .reply) (table-refused (suc r) (sym e) (λ q. omega arith)) ∙ z in absurd (omega arith)

@@ -1,0 +1,65 @@
+-- Tables and their texts, computed: 01's example, the shortest text, and what is refused. Assumes nothing.
+use mathlib.Core.Bool.{Bool, _&&_}
+use mathlib.Core.List.{List, [], _∷_, _++_}
+use Prim.Native.Nat.{ℕ}
+use lib.Dec.{T, ltb, eqb}
+use lib.ListN.{length, take, replicate}
+use Rattle.tables.specs.Basics.{first, every, allBelow, allZero, zeroFrom}
+use Rattle.tables.specs.Layout.{rowOf}
+use Rattle.tables.specs.Rows.{rowReply, wellFormed, fieldsFit, namesOf, within}
+use Rattle.tables.specs.Table.{goodTable, goodAgent, goodRows, rowReplyAt, earlyBefore, lateBefore}
+use Rattle.tables.specs.Lines.{newline, endLine, same}
+use Rattle.tables.specs.Calls.{checkReply}
+use Rattle.digits.specs.Hex.{hexChar, hexDigits, hexWords}
+use Rattle.writing.specs.Writer.{rowsFrom, agentsFrom, framesIn, frameLine, lineOf, linesOf, textOf}
+use Rattle.writing.specs.Calls.{bytesInto, writeInto}
+
+-- 01's example: SEND 0, 7 in the window 1 to 3 with 5 in register 0; RECV 1, 7 in the window 4 to 8
+table : List ℕ
+table =
+    (2 ∷ 1 ∷ 1 ∷ replicate 14 0) ++ (5 ∷ replicate 63 0)
+    ++ (0x20000000 ∷ 7 ∷ 1 ∷ 3 ∷ replicate 124 0)
+    ++ (0x30010000 ∷ 7 ∷ 4 ∷ 8 ∷ replicate 1916 0)
+
+-- one agent of one row, which sets register 0
+shortest : List ℕ
+shortest = (1 ∷ 1 ∷ replicate 79 0) ++ (0 ∷ 0xABCDEF01 ∷ 0 ∷ 1 ∷ replicate 2044 0)
+
+-- a line of 36 digits
+line : ℕ → List ℕ
+unfolding hexDigits hexChar
+line m = hexDigits 36 m ++ (newline ∷ [])
+
+-- the write of this table into a buffer of n bytes, each 1, replies r with the length m, and leaves these bytes
+leaves : (table : List ℕ) (n r m : ℕ) → List ℕ → Bool
+unfolding first every same checkReply goodTable goodAgent goodRows rowReplyAt earlyBefore lateBefore rowReply wellFormed fieldsFit namesOf within rowOf zeroFrom allZero allBelow hexChar hexDigits hexWords rowsFrom agentsFrom framesIn frameLine lineOf linesOf textOf bytesInto writeInto
+leaves tb n r m bs =
+    let w = writeInto tb (replicate n 1) in
+    eqb (w .wrote .reply) r && eqb (w .wrote .length) m && same (w .text) bs
+
+text : List ℕ
+text =
+    line 0x000000000005000000000000000000000000
+    ++ (line 0x010020000000000000070000000100000003
+    ++ (line 0x000100000000000000000000000000000000
+    ++ (line 0x010130010000000000070000000400000008
+    ++ endLine)))
+
+cases : T (every (
+    -- the text, and two bytes after it as they were
+    leaves table 153 0 151 (text ++ (1 ∷ 1 ∷ []))
+    -- words past the table's are not read
+    ∷ leaves (table ++ (9 ∷ [])) 151 0 151 text
+    -- a byte too few: the length needed, and no byte written
+    ∷ leaves table 150 20 151 (replicate 150 1)
+    ∷ leaves table 0 20 151 []
+    -- the shortest text; digits in upper case
+    ∷ leaves shortest 77 0 77 (line 0 ++ (line 0x010000000000ABCDEF010000000000000001 ++ endLine))
+    -- too few words, and a bad one after the last row
+    ∷ leaves (take 2128 table) 151 1 0 (replicate 151 1)
+    ∷ leaves (take 2128 table ++ (1 ∷ [])) 151 8 0 (replicate 151 1)
+    -- bad words before a buffer too short
+    ∷ leaves (take 2128 table ++ (1 ∷ [])) 0 8 0 []
+    ∷ []))
+unfolding leaves line text table shortest every
+cases = tt
