@@ -13,13 +13,13 @@ use Rattle.digits.specs.Eight.{eightOf}
 
 -- what the code does, step by step
 abbrev pub halvesIn : ℕ → ℕ
-halvesIn w = w + 0xFFFF0000 * (w / 65536)
+halvesIn w = w / 65536 + 4294967296 * (w % 65536)
 
 abbrev pub bytesIn : ℕ → ℕ
-bytesIn x = x + 0xFF00 * bitAnd (x / 256) 0x000000FF000000FF
+bytesIn x = bitAnd (x / 256) 0x000000FF000000FF + 65536 * bitAnd x 0x000000FF000000FF
 
 abbrev pub digitsIn : ℕ → ℕ
-digitsIn x = x + 0xF0 * bitAnd (x / 16) 0x000F000F000F000F
+digitsIn x = bitAnd (x / 16) 0x000F000F000F000F + 256 * bitAnd x 0x000F000F000F000F
 
 abbrev pub lettersIn : ℕ → ℕ
 lettersIn x = bitAnd ((x + 0x0606060606060606) / 16) 0x0101010101010101
@@ -27,22 +27,28 @@ lettersIn x = bitAnd ((x + 0x0606060606060606) / 16) 0x0101010101010101
 abbrev pub charsIn : ℕ → ℕ
 charsIn x = x + 0x3030303030303030 + 7 * lettersIn x
 
--- ---- each step, on blocks
+-- ---- each step, on blocks: what comes first stands lowest
 
-halves : (p q : ℕ) → q < 65536 → halvesIn (p * 65536 + q) ≡ foursOf p q
+halves : (p q : ℕ) → q < 65536 → halvesIn (p * 65536 + q) ≡ foursOf q p
 halves p q l = omega arith
 
 module _ (a b c d : ℕ) (k : a < 256) (l : b < 256) (m : c < 256) (n : d < 256) where
-  bytes : bytesIn (foursOf (256 * a + b) (256 * c + d)) ≡ pairsOf a b c d
+  bytes : bytesIn (foursOf (256 * c + d) (256 * a + b)) ≡ pairsOf d c b a
   bytes =
-      let shifted : foursOf (256 * a + b) (256 * c + d) / 256 ≡ foursOf a (b * 16777216 + c) = omega arith in
-      let high : a % 256 ≡ a = omega arith in
-      let low : (b * 16777216 + c) % 256 ≡ c = omega arith in
-      let e : bitAnd (foursOf (256 * a + b) (256 * c + d) / 256) 0x000000FF000000FF ≡ foursOf a c =
-      ap (λ (x : ℕ). bitAnd x 0x000000FF000000FF) shifted
-      ∙ fours-masked 0xFF (omega arith) a (b * 16777216 + c) (omega arith)
-      ∙ rw (and-mask a 8, and-mask (b * 16777216 + c) 8, high, low) in
-      ap (λ (x : ℕ). foursOf (256 * a + b) (256 * c + d) + 0xFF00 * x) e ∙ omega arith
+      let x = foursOf (256 * c + d) (256 * a + b) in
+      let shifted : x / 256 ≡ foursOf c (d * 16777216 + a) = omega arith in
+      let c₁ : c % 256 ≡ c = omega arith in
+      let a₁ : (d * 16777216 + a) % 256 ≡ a = omega arith in
+      let d₁ : (256 * c + d) % 256 ≡ d = omega arith in
+      let b₁ : (256 * a + b) % 256 ≡ b = omega arith in
+      let high : bitAnd (x / 256) 0x000000FF000000FF ≡ foursOf c a =
+      ap (λ (y : ℕ). bitAnd y 0x000000FF000000FF) shifted
+      ∙ fours-masked 0xFF (omega arith) c (d * 16777216 + a) (omega arith)
+      ∙ rw (and-mask c 8, and-mask (d * 16777216 + a) 8, c₁, a₁) in
+      let low : bitAnd x 0x000000FF000000FF ≡ foursOf d b =
+      fours-masked 0xFF (omega arith) (256 * c + d) (256 * a + b) (omega arith)
+      ∙ rw (and-mask (256 * c + d) 8, and-mask (256 * a + b) 8, d₁, b₁) in
+      (λ i. high i + 65536 * low i) ∙ omega arith
 
 -- the character of a digit, without a case
 char-of : (h : ℕ) → h < 16 → h + 48 + 7 * ((h + 6) / 16) ≡ hexChar h
@@ -53,19 +59,21 @@ char-below : (h : ℕ) → h < 16 → hexChar h < 256
 char-below h l = let e = char-of h l in omega arith
 
 module _ (h0 h1 h2 h3 h4 h5 h6 h7 : ℕ) (l0 : h0 < 16) (l1 : h1 < 16) (l2 : h2 < 16) (l3 : h3 < 16) (l4 : h4 < 16) (l5 : h5 < 16) (l6 : h6 < 16) (l7 : h7 < 16) where
-  digits : digitsIn (pairsOf (16 * h0 + h1) (16 * h2 + h3) (16 * h4 + h5) (16 * h6 + h7)) ≡ bytesOf h0 h1 h2 h3 h4 h5 h6 h7
+  digits : digitsIn (pairsOf (16 * h6 + h7) (16 * h4 + h5) (16 * h2 + h3) (16 * h0 + h1)) ≡ bytesOf h7 h6 h5 h4 h3 h2 h1 h0
   digits =
-      let x = pairsOf (16 * h0 + h1) (16 * h2 + h3) (16 * h4 + h5) (16 * h6 + h7) in
-      let shifted : x / 16 ≡ pairsOf h0 (h1 * 4096 + h2) (h3 * 4096 + h4) (h5 * 4096 + h6) = omega arith in
-      let e0 : h0 % 16 ≡ h0 = omega arith in
-      let e1 : (h1 * 4096 + h2) % 16 ≡ h2 = omega arith in
-      let e2 : (h3 * 4096 + h4) % 16 ≡ h4 = omega arith in
-      let e3 : (h5 * 4096 + h6) % 16 ≡ h6 = omega arith in
-      let e : bitAnd (x / 16) 0x000F000F000F000F ≡ pairsOf h0 h2 h4 h6 =
+      let x = pairsOf (16 * h6 + h7) (16 * h4 + h5) (16 * h2 + h3) (16 * h0 + h1) in
+      let shifted : x / 16 ≡ pairsOf h6 (h7 * 4096 + h4) (h5 * 4096 + h2) (h3 * 4096 + h0) = omega arith in
+      let first : (g h : ℕ) → h < 16 → (g * 4096 + h) % 16 ≡ h = λ g h l. omega arith in
+      let second : (g h : ℕ) → h < 16 → (16 * g + h) % 16 ≡ h = λ g h l. omega arith in
+      let e6 : h6 % 16 ≡ h6 = omega arith in
+      let high : bitAnd (x / 16) 0x000F000F000F000F ≡ pairsOf h6 h4 h2 h0 =
       ap (λ (y : ℕ). bitAnd y 0x000F000F000F000F) shifted
-      ∙ pairs-masked 0xF (omega arith) h0 (h1 * 4096 + h2) (h3 * 4096 + h4) (h5 * 4096 + h6) (omega arith) (omega arith) (omega arith)
-      ∙ rw (and-mask h0 4, and-mask (h1 * 4096 + h2) 4, and-mask (h3 * 4096 + h4) 4, and-mask (h5 * 4096 + h6) 4, e0, e1, e2, e3) in
-      ap (λ (y : ℕ). x + 0xF0 * y) e ∙ omega arith
+      ∙ pairs-masked 0xF (omega arith) h6 (h7 * 4096 + h4) (h5 * 4096 + h2) (h3 * 4096 + h0) (omega arith) (omega arith) (omega arith)
+      ∙ rw (and-mask h6 4, and-mask (h7 * 4096 + h4) 4, and-mask (h5 * 4096 + h2) 4, and-mask (h3 * 4096 + h0) 4, e6, first h7 h4 l4, first h5 h2 l2, first h3 h0 l0) in
+      let low : bitAnd x 0x000F000F000F000F ≡ pairsOf h7 h5 h3 h1 =
+      pairs-masked 0xF (omega arith) (16 * h6 + h7) (16 * h4 + h5) (16 * h2 + h3) (16 * h0 + h1) (omega arith) (omega arith) (omega arith)
+      ∙ rw (and-mask (16 * h6 + h7) 4, and-mask (16 * h4 + h5) 4, and-mask (16 * h2 + h3) 4, and-mask (16 * h0 + h1) 4, second h6 h7 l7, second h4 h5 l5, second h2 h3 l3, second h0 h1 l1) in
+      (λ i. high i + 256 * low i) ∙ omega arith
 
   letters : lettersIn (bytesOf h0 h1 h2 h3 h4 h5 h6 h7)
       ≡ bytesOf ((h0 + 6) / 16) ((h1 + 6) / 16) ((h2 + 6) / 16) ((h3 + 6) / 16) ((h4 + 6) / 16) ((h5 + 6) / 16) ((h6 + 6) / 16) ((h7 + 6) / 16)
@@ -97,7 +105,7 @@ module _ (c0 c1 c2 c3 c4 c5 c6 c7 : ℕ) (l0 : c0 < 256) (l1 : c1 < 256) (l2 : c
   abbrev whole : ℕ
   whole = bytesOf c0 c1 c2 c3 c4 c5 c6 c7
 
-  apart : eightOf whole ≡ c0 ∷ c1 ∷ c2 ∷ c3 ∷ c4 ∷ c5 ∷ c6 ∷ c7 ∷ []
+  apart : eightOf whole ≡ c7 ∷ c6 ∷ c5 ∷ c4 ∷ c3 ∷ c2 ∷ c1 ∷ c0 ∷ []
   apart =
       let e0 : whole / 2 ^ 56 % 256 ≡ c0 = omega arith in
       let e1 : whole / 2 ^ 48 % 256 ≡ c1 = omega arith in
@@ -107,24 +115,24 @@ module _ (c0 c1 c2 c3 c4 c5 c6 c7 : ℕ) (l0 : c0 < 256) (l1 : c1 < 256) (l2 : c
       let e5 : whole / 2 ^ 16 % 256 ≡ c5 = omega arith in
       let e6 : whole / 2 ^ 8 % 256 ≡ c6 = omega arith in
       let e7 : whole % 256 ≡ c7 = omega arith in
-      λ i. e0 i ∷ e1 i ∷ e2 i ∷ e3 i ∷ e4 i ∷ e5 i ∷ e6 i ∷ e7 i ∷ []
+      λ i. e7 i ∷ e6 i ∷ e5 i ∷ e4 i ∷ e3 i ∷ e2 i ∷ e1 i ∷ e0 i ∷ []
 
 -- ---- a word
 
 module _ (h0 h1 h2 h3 h4 h5 h6 h7 : ℕ) (l0 : h0 < 16) (l1 : h1 < 16) (l2 : h2 < 16) (l3 : h3 < 16) (l4 : h4 < 16) (l5 : h5 < 16) (l6 : h6 < 16) (l7 : h7 < 16) where
   eight-chars : charsIn (digitsIn (bytesIn (halvesIn ((256 * (16 * h0 + h1) + (16 * h2 + h3)) * 65536 + (256 * (16 * h4 + h5) + (16 * h6 + h7))))))
-      ≡ bytesOf (hexChar h0) (hexChar h1) (hexChar h2) (hexChar h3) (hexChar h4) (hexChar h5) (hexChar h6) (hexChar h7)
+      ≡ bytesOf (hexChar h7) (hexChar h6) (hexChar h5) (hexChar h4) (hexChar h3) (hexChar h2) (hexChar h1) (hexChar h0)
   eight-chars =
       ap (λ (x : ℕ). charsIn (digitsIn (bytesIn x))) (halves (256 * (16 * h0 + h1) + (16 * h2 + h3)) (256 * (16 * h4 + h5) + (16 * h6 + h7)) (omega arith))
       ∙ ap (λ (x : ℕ). charsIn (digitsIn x)) (bytes (16 * h0 + h1) (16 * h2 + h3) (16 * h4 + h5) (16 * h6 + h7) (omega arith) (omega arith) (omega arith) (omega arith))
       ∙ ap charsIn (digits h0 h1 h2 h3 h4 h5 h6 h7 l0 l1 l2 l3 l4 l5 l6 l7)
-      ∙ chars h0 h1 h2 h3 h4 h5 h6 h7 l0 l1 l2 l3 l4 l5 l6 l7
+      ∙ chars h7 h6 h5 h4 h3 h2 h1 h0 l7 l6 l5 l4 l3 l2 l1 l0
 
   eight-digits : eightOf (charsIn (digitsIn (bytesIn (halvesIn ((256 * (16 * h0 + h1) + (16 * h2 + h3)) * 65536 + (256 * (16 * h4 + h5) + (16 * h6 + h7)))))))
       ≡ hexChar h0 ∷ hexChar h1 ∷ hexChar h2 ∷ hexChar h3 ∷ hexChar h4 ∷ hexChar h5 ∷ hexChar h6 ∷ hexChar h7 ∷ []
   eight-digits =
       ap eightOf eight-chars
-      ∙ apart (hexChar h0) (hexChar h1) (hexChar h2) (hexChar h3) (hexChar h4) (hexChar h5) (hexChar h6) (hexChar h7) (char-below h0 l0) (char-below h1 l1) (char-below h2 l2) (char-below h3 l3) (char-below h4 l4) (char-below h5 l5) (char-below h6 l6) (char-below h7 l7)
+      ∙ apart (hexChar h7) (hexChar h6) (hexChar h5) (hexChar h4) (hexChar h3) (hexChar h2) (hexChar h1) (hexChar h0) (char-below h7 l7) (char-below h6 l6) (char-below h5 l5) (char-below h4 l4) (char-below h3 l3) (char-below h2 l2) (char-below h1 l1) (char-below h0 l0)
 
 pub word-digits : (w : ℕ) → w < 2 ^ 32 → eightOf (charsIn (digitsIn (bytesIn (halvesIn w)))) ≡ hexDigits 8 w
 unfolding hexDigits

@@ -32,30 +32,31 @@ pub fn put_hex(out: &mut [u8], at: usize, k: usize, m: u32)
     }
 }
 
-// The eight bytes of a number, the highest first: together they are one store.
+// The eight bytes of a number, the lowest first: together they are one store.
 fn put_eight(out: &mut [u8], at: usize, x: u64)
     requires { ⌜ at + 8 ≤ length (now out) ⌝ }
     ensures { λ _. ⌜ now (out .exit) ≡ sets (now (out .entry)) at (eightOf x) ⌝ }
 {
-    out[at] = (x / 72057594037927936 % 256) as u8;
-    out[at + 1] = (x / 281474976710656 % 256) as u8;
-    out[at + 2] = (x / 1099511627776 % 256) as u8;
-    out[at + 3] = (x / 4294967296 % 256) as u8;
-    out[at + 4] = (x / 16777216 % 256) as u8;
-    out[at + 5] = (x / 65536 % 256) as u8;
-    out[at + 6] = (x / 256 % 256) as u8;
-    out[at + 7] = (x % 256) as u8;
+    out[at] = (x % 256) as u8;
+    out[at + 1] = (x / 256 % 256) as u8;
+    out[at + 2] = (x / 65536 % 256) as u8;
+    out[at + 3] = (x / 16777216 % 256) as u8;
+    out[at + 4] = (x / 4294967296 % 256) as u8;
+    out[at + 5] = (x / 1099511627776 % 256) as u8;
+    out[at + 6] = (x / 281474976710656 % 256) as u8;
+    out[at + 7] = (x / 72057594037927936 % 256) as u8;
 }
 
-// The eight digits of a word, all at once: its halves are moved apart, then their bytes, then the digits, each to a byte of its own, which becomes a character.
+// The eight digits of a word, all at once: its halves are moved apart, then their bytes, then the digits, each to a byte of its own, the first to the lowest,
+// and each byte becomes a character.
 pub fn put_word(out: &mut [u8], at: usize, w: u32)
     requires { ⌜ at + 8 ≤ length (now out) ⌝ }
     ensures { λ _. ⌜ now (out .exit) ≡ sets (now (out .entry)) at (hexDigits 8 w) ⌝ }
 {
     let x = w as u64;
-    let halves = x + 0xFFFF_0000 * (x / 65536);
-    let bytes = halves + 0xFF00 * ((halves / 256) & 0x0000_00FF_0000_00FF);
-    let digits = bytes + 0xF0 * ((bytes / 16) & 0x000F_000F_000F_000F);
+    let halves = x / 65536 + 4294967296 * (x % 65536);
+    let bytes = ((halves / 256) & 0x0000_00FF_0000_00FF) + 65536 * (halves & 0x0000_00FF_0000_00FF);
+    let digits = ((bytes / 16) & 0x000F_000F_000F_000F) + 256 * (bytes & 0x000F_000F_000F_000F);
     let letters = ((digits + 0x0606_0606_0606_0606) / 16) & 0x0101_0101_0101_0101;
     put_eight(out, at, digits + 0x3030_3030_3030_3030 + 7 * letters);
 }
