@@ -1,13 +1,10 @@
 -- Words of 32 bits stay words of 32 bits: of a table that was read, and of every state that its steps lead to. Assumes nothing.
-use mathlib.Core.Path.{_≡_}
 use mathlib.Core.Bool.{Bool, true, false, cond}
-use mathlib.Core.List.{List, [], _∷_, _++_}
+use mathlib.Core.List.{List}
 use Prim.Native.Nat.{ℕ, zero, suc, _+_, _/_, _%_, _^_, _≤_, _<_}
-use native.Mathlib.Decide.{decLt, ℕ-discrete}
 use native.Mathlib.Omega.{arith}
 use lib.Dec.{eqb, lit<}
-use lib.ListN.{length, getD, set, take, drop, replicate}
-use lib.Seq.{sets, set-out, getD-set-same, getD-set-other, getD-drop}
+use lib.ListN.{getD, set}
 use lib.Count.{onesIn, trailingZeros, trailing-le}
 use Rattle.tables.specs.Small.{Word, Small}
 use Rattle.tables.specs.declared.Row.{Row}

@@ -5,16 +5,15 @@ use Prim.Native.Nat.{ℕ, zero, suc, _+_, _-_, _≤_, _<_}
 use native.Mathlib.Numerals.{add-one}
 use native.Mathlib.Omega.{arith}
 use lib.ListN.{length, getD, set, length-set}
-use lib.Seq.{sets, length-sets, getD-set-same, getD-set-other}
 use borrow.Author.Count.{below-more}
-use Rattle.tables.specs.Layout.{agentsPlace, agents, countPlace, rows, row, rowPlace, startPlace, tableWords}
+use Rattle.tables.specs.Layout.{countPlace, rows, row, rowPlace, startPlace, tableWords}
 use Rattle.tables.specs.Rows.{rowReply}
 use Rattle.tables.specs.Table.{earlyBefore, lateBefore, rowReplyAt}
 use Rattle.tables.specs.Lines.{same}
 use Rattle.reading.specs.Reader.{rowIn}
 use Rattle.tables.specs.declared.Row.{Row}
 use Rattle.tables.proofs.Good.{Zero, AgentFacts, TableFacts}
-use Rattle.reading.proofs.Stores.{sets-below, sets-above, sets-in}
+use Rattle.reading.proofs.Stores.{sets-in, withOpened, opened-below, opened-above, withGiven, given-below, given-above, Now, now-opened, now-given}
 
 -- the reply of row j of agent a, where its agent has c rows
 abbrev replyIn : List ℕ → ℕ → ℕ → ℕ → ℕ
@@ -72,45 +71,37 @@ pub record Closed (tb : List ℕ) (a : ℕ) : Type 0 where
 
 -- agent b is open, with i of its c rows so far, the last with the window from e to l
 pub record Open (tb : List ℕ) (b i c e l : ℕ) : Type 0 where
-  pub words : length tb ≡ tableWords
-  pub count : agents tb ≡ b + 1
-  pub rows-now : rows tb b ≡ i
+  pub now : Now tb b i
   pub done : (a : ℕ) → a < b → AgentFacts tb a
   pub pass : (j : ℕ) → j < i → replyIn tb b c j ≡ 0
   pub early : earlyBefore tb b i ≡ e
   pub late : lateBefore tb b i ≡ l
-  pub counts-past : Zero tb (countPlace (b + 1)) 17
   pub registers-past : Zero tb (startPlace (b + 1)) 81
   pub rows-past : Zero tb (rowPlace b i) tableWords
 
 -- an agent is opened
 module _ (tb : List ℕ) (b : ℕ) (ws : List ℕ) (t : Closed tb b) (room : b < 16) (four : length ws ≡ 4) where
   unfoldable pub after-open : List ℕ
-  after-open = sets (set tb agentsPlace (b + 1)) (startPlace b) ws
+  after-open = withOpened tb b ws
 
   open-below : (k : ℕ) → 1 ≤ k → k < 17 → getD after-open k 0 ≡ getD tb k 0
   unfolding after-open
-  open-below k h l = sets-below (set tb agentsPlace (b + 1)) (startPlace b) ws k (omega arith) ∙ getD-set-other tb agentsPlace k (b + 1) 0 (λ e. omega arith)
+  open-below k h l = opened-below tb b ws k h (omega arith)
 
   open-above : (k : ℕ) → startPlace b + 4 ≤ k → getD after-open k 0 ≡ getD tb k 0
   unfolding after-open
-  open-above k h = sets-above (set tb agentsPlace (b + 1)) (startPlace b) ws k (omega arith) ∙ getD-set-other tb agentsPlace k (b + 1) 0 (λ e. omega arith)
+  open-above k h = opened-above tb b ws k (omega arith)
 
   pub opened : (c : ℕ) → Open after-open b 0 c 0 0
   unfolding after-open earlyBefore lateBefore
   opened c = record {
-    words = length-sets (set tb agentsPlace (b + 1)) (startPlace b) ws ∙ length-set tb agentsPlace (b + 1) ∙ t .words;
-    count =
-        sets-below (set tb agentsPlace (b + 1)) (startPlace b) ws 0 (omega arith)
-        ∙ getD-set-same tb agentsPlace (b + 1) 0 (omega (arith, t .words));
-    rows-now = open-below (countPlace b) (omega arith) (omega arith) ∙ t .counts-past (countPlace b) (omega arith) (omega arith);
+    now = now-opened tb b ws (t .words) room (t .counts-past);
     done =
         λ a h.
         agent-same tb after-open a (open-below (countPlace a) (omega arith) (omega arith)) (λ k g l. open-above k (omega arith)) (t .done a h);
     pass = λ j h. absurd (omega arith);
     early = refl;
     late = refl;
-    counts-past = λ k h l. open-below k (omega arith) l ∙ t .counts-past k (omega arith) l;
     registers-past = λ k h l. open-above k (omega arith) ∙ t .registers-past k (omega arith) l;
     rows-past = λ k h l. open-above k (omega arith) ∙ t .rows-past k h l;
   }
@@ -118,32 +109,25 @@ module _ (tb : List ℕ) (b : ℕ) (ws : List ℕ) (t : Closed tb b) (room : b <
 -- a row is given
 module _ (tb : List ℕ) (b i c e l : ℕ) (ws : List ℕ) (t : Open tb b i c e l) (room : b < 16) (below : i < 32) (four : length ws ≡ 4) where
   unfoldable pub after-give : List ℕ
-  after-give = sets (set tb (countPlace b) (i + 1)) (rowPlace b i) ws
+  after-give = withGiven tb b i ws
 
   fits : rowPlace b i + length ws ≤ length (set tb (countPlace b) (i + 1))
-  fits = let n = length-set tb (countPlace b) (i + 1) in omega (arith, t .words)
+  fits = let n = length-set tb (countPlace b) (i + 1) in omega (arith, t .now .words)
 
   give-below : (k : ℕ) → (k ≡ countPlace b → ⊥) → k < rowPlace b i → getD after-give k 0 ≡ getD tb k 0
   unfolding after-give
-  give-below k n h = sets-below (set tb (countPlace b) (i + 1)) (rowPlace b i) ws k h ∙ getD-set-other tb (countPlace b) k (i + 1) 0 n
+  give-below = given-below tb b i ws
 
   give-above : (k : ℕ) → rowPlace b i + 4 ≤ k → getD after-give k 0 ≡ getD tb k 0
   unfolding after-give
-  give-above k h =
-      sets-above (set tb (countPlace b) (i + 1)) (rowPlace b i) ws k (omega arith) ∙ getD-set-other tb (countPlace b) k (i + 1) 0 (λ q. omega arith)
+  give-above k h = given-above tb b i ws room k (omega arith)
 
   rows-kept : (a : ℕ) (k : ℕ) → rowPlace a 0 ≤ k → k < rowPlace b i → getD after-give k 0 ≡ getD tb k 0
   rows-kept a k g h = give-below k (λ q. omega arith) h
 
-  new-length : length after-give ≡ tableWords
+  now-after : Now after-give b (i + 1)
   unfolding after-give
-  new-length = length-sets (set tb (countPlace b) (i + 1)) (rowPlace b i) ws ∙ length-set tb (countPlace b) (i + 1) ∙ t .words
-
-  new-count : rows after-give b ≡ i + 1
-  unfolding after-give
-  new-count =
-      sets-below (set tb (countPlace b) (i + 1)) (rowPlace b i) ws (countPlace b) (omega arith)
-      ∙ getD-set-same tb (countPlace b) (i + 1) 0 (omega (arith, t .words))
+  now-after = now-given tb b i ws (t .now) room
 
   new-row : row after-give b i ≡ rowIn ws
   unfolding after-give
@@ -160,9 +144,7 @@ module _ (tb : List ℕ) (b i c e l : ℕ) (ws : List ℕ) (t : Open tb b i c e 
   pub given : rowReply (rowIn ws) i c e l ≡ 0 → Open after-give b (i + 1) c (rowIn ws .early) (rowIn ws .late)
   unfolding earlyBefore lateBefore
   given passes = record {
-    words = new-length;
-    count = give-below 0 (λ q. omega arith) (omega arith) ∙ t .count;
-    rows-now = new-count;
+    now = now-after;
     done =
         λ a h.
         agent-same tb after-give a (give-below (countPlace a) (λ q. omega arith) (omega arith)) (λ k g m. rows-kept a k g (omega arith)) (t .done a h);
@@ -174,7 +156,6 @@ module _ (tb : List ℕ) (b i c e l : ℕ) (ws : List ℕ) (t : Open tb b i c e 
         (rw (new-row, early-same tb after-give b i (rows-kept b) i (omega arith), late-same tb after-give b i (rows-kept b) i (omega arith), t .early, t .late) passes);
     early = rw (add-one i) (ap (λ (r : Row). r .early) new-row);
     late = rw (add-one i) (ap (λ (r : Row). r .late) new-row);
-    counts-past = λ k h m. give-below k (λ q. omega arith) (omega arith) ∙ t .counts-past k h m;
     registers-past = λ k h m. give-below k (λ q. omega arith) (omega arith) ∙ t .registers-past k h m;
     rows-past = λ k h m. give-above k (omega arith) ∙ t .rows-past k (omega arith) m;
   }
@@ -184,7 +165,7 @@ module _ (tb : List ℕ) (b i c e l : ℕ) (t : Open tb b i c e l) (room : b < 1
   last-agent : AgentFacts tb b
   unfolding rowReplyAt
   last-agent =
-      let n = t .rows-now in
+      let n = t .now .rows-now in
       record {
         rows-some = omega arith;
         rows-few = omega arith;
@@ -194,16 +175,16 @@ module _ (tb : List ℕ) (b i c e l : ℕ) (t : Open tb b i c e l) (room : b < 1
 
   pub closed : Closed tb (b + 1)
   closed = record {
-    words = t .words;
+    words = t .now .words;
     done = below-more (AgentFacts tb) b (t .done) last-agent;
-    counts-past = λ k h m. t .counts-past k (omega arith) m;
+    counts-past = λ k h m. t .now .counts-past k (omega arith) m;
     registers-past = t .registers-past;
     rows-past = λ k h m. t .rows-past k (omega arith) m;
   }
 
   pub all-facts : TableFacts tb
   all-facts =
-      let n = t .count in
+      let n = t .now .count in
       let d = closed in
       record {
         some-agents = omega arith;

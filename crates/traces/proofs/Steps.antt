@@ -9,7 +9,6 @@ use lib.Seq.{sets}
 use Rattle.choices.specs.declared.Agent.{Agent}
 use Rattle.choices.specs.State.{agentAt}
 use Rattle.choices.specs.Step.{choiceReply, accepted}
-use Rattle.executive.specs.Run.{ended}
 use Rattle.traces.specs.Output.{Traced, traced, after, stepLine, lastLine, traceFrom}
 use Rattle.traces.specs.Calls.{written}
 use Rattle.traces.specs.Places.{placed}

@@ -1,17 +1,16 @@
 -- The frames in the words of a good table are in their places, and each row passes. Assumes nothing.
 use mathlib.Core.Path.{_≡_, refl, sym, ap, _∙_}
 use mathlib.Core.Bool.{Bool, true, false, _&&_}
-use mathlib.Core.List.{List, [], _∷_, _++_}
+use mathlib.Core.List.{List, [], _++_}
 use Prim.Native.Nat.{ℕ, zero, suc, _+_, _-_, _≤_, _<_}
 use native.Mathlib.Numerals.{add-one}
 use native.Mathlib.Omega.{arith}
 use lib.Dec.{ltb, eqb}
 use borrow.Author.Tests.{ltb-true, lt-leb, eq-eqb, ne-eqb}
 use Rattle.tables.specs.Basics.{first}
-use Rattle.tables.specs.Layout.{agents, rows, row, startPlace, rowPlace}
-use Rattle.tables.specs.Rows.{rowReply}
+use Rattle.tables.specs.Layout.{agents, rows, startPlace, rowPlace}
 use Rattle.tables.specs.Table.{earlyBefore, lateBefore, rowReplyAt, goodTable}
-use Rattle.tables.specs.Frames.{Frame, opens, gives, ends}
+use Rattle.tables.specs.Frames.{Frame}
 use Rattle.tables.proofs.Tests.{and-left, and-right, not-t}
 use Rattle.tables.proofs.Good.{some, few, some-rows, few-rows, row-passes}
 use Rattle.reading.specs.Reader.{told, inPlace, rowsNext, rowsGood}

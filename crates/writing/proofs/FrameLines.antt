@@ -4,9 +4,8 @@ use mathlib.Core.Bool.{true}
 use mathlib.Core.List.{List, [], _∷_, _++_, map, append-assoc}
 use Prim.Native.Nat.{ℕ, _+_, _^_, _≤_, _<_}
 use native.Mathlib.Omega.{arith}
-use lib.Dec.{lit<}
 use lib.ListN.{length, take, drop, getD, length-append}
-use Rattle.tables.specs.Small.{Word, Small}
+use Rattle.tables.specs.Small.{Small}
 use Rattle.tables.specs.Lines.{newline, endLine, lines, allHex, field, digitsLine}
 use Rattle.tables.specs.Frames.{Frame, opens, gives, ends, malformed, fourWords, frameOf, framesOf}
 use Rattle.tables.proofs.Lines.{same-eq, same-self, hex-part}

@@ -1,20 +1,20 @@
 -- What `write` and `read` are to each other, proved. Assumes nothing.
 use mathlib.Core.Path.{_≡_, refl, sym, ap, subst, _∙_}
 use mathlib.Core.Bool.{Bool, true, false}
-use mathlib.Core.List.{List, [], _∷_, _++_, append-nil}
+use mathlib.Core.List.{List, _++_, append-nil}
 use Prim.Native.Nat.{ℕ, zero, suc, _+_, _≤_, _<_}
 use native.Mathlib.Omega.{arith}
 use lib.Dec.{ltb}
-use lib.ListN.{length, getD, take, drop, replicate, length-replicate, drop-of-length-le}
-use lib.Seq.{take-at, take-all, length-take-le}
+use lib.ListN.{length, take, drop, replicate, length-replicate, drop-of-length-le}
+use lib.Seq.{take-at, take-all}
 use borrow.Author.Tests.{ltb-true, ltb-false}
 use Rattle.tables.specs.Small.{Small}
 use Rattle.tables.specs.Layout.{agents, rows, startPlace, rowPlace, tableWords}
 use Rattle.tables.specs.Lines.{lines}
-use Rattle.tables.specs.Frames.{Frame, opens, gives, ends, framesOf}
+use Rattle.tables.specs.Frames.{Frame, gives, framesOf}
 use Rattle.tables.specs.Table.{goodTable}
 use Rattle.tables.specs.Calls.{checkReply}
-use Rattle.tables.proofs.Newlines.{joined, joined-lines}
+use Rattle.tables.proofs.Newlines.{joined-lines}
 use Rattle.tables.proofs.Good.{few, checked-good}
 use Rattle.tables.proofs.Small.{small-nil, small-cons, small-take}
 use Rattle.reading.specs.Reader.{told, rowsGood, framesReply, tableOf}
@@ -22,14 +22,14 @@ use Rattle.reading.specs.declared.Told.{Told}
 use Rattle.reading.specs.Calls.{ReadOutcome, readOutcome, readInto}
 use Rattle.reading.proofs.Accepted.{placed-first}
 use Rattle.reading.proofs.Outcomes.{in-places, accepted-placed, accepted-read, all-good}
-use Rattle.reading.proofs.ReadGood.{Fours, frames-four, table-length, read-good}
+use Rattle.reading.proofs.ReadGood.{frames-four, table-length, read-good}
 use Rattle.reading.proofs.ReadSmall.{words-small}
 use Rattle.reading.proofs.Laws.{read-is-checked}
 use Rattle.writing.specs.Writer.{fourAt, linesOf, rowsFrom, agentsFrom, framesIn, textOf}
 use Rattle.writing.specs.Calls.{WriteOutcome, wrote, writeOutcome, writeInto}
-use Rattle.writing.specs.Laws.{bytesWritten, WrittenIsRead, ReadIsWritten, Accepted, ReadFrom, AcceptedAreRead, textLength, LengthOfTable, LengthBounds}
+use Rattle.writing.specs.Laws.{bytesWritten, WrittenIsRead, ReadIsWritten, Accepted, ReadFrom, AcceptedAreRead, LengthOfTable, LengthBounds}
 use Rattle.writing.proofs.Lengths.{text-length, length-within}
-use Rattle.writing.proofs.Outcomes.{too-long, all-written, accepted-write}
+use Rattle.writing.proofs.Outcomes.{checked-words, too-long, all-written, accepted-write}
 use Rattle.writing.proofs.FrameLines.{AllPlain, frames-back, text-back}
 use Rattle.writing.proofs.Loaded.{table-frames}
 use Rattle.writing.proofs.Accepts.{frames-placed, frames-pass}
@@ -74,10 +74,6 @@ module _ (tb : List ℕ) (long : length tb ≡ tableWords) (small : Small tb) (g
       sym
       (all-good (textOf tb) lent room (accepted-placed fs reply-placed) (told 0 0)
       (sym (frames-pass tb good) ∙ ap (λ (gs : List Frame). rowsGood 1 0 0 0 0 gs) (sym frames-read)) refl tb (sym words-read))
-
--- the words of a table that is checked
-checked-words : (tb : List ℕ) → checkReply tb ≡ 0 → (length (take tableWords tb) ≡ tableWords) × (goodTable (take tableWords tb) ≡ true)
-checked-words tb ok = let g = checked-good tb ok in (length-take-le tableWords tb (g .0), g .1)
 
 pub written-is-read : WrittenIsRead
 written-is-read tb text lent small z room =

@@ -8,11 +8,10 @@ use native.Mathlib.Omega.{arith}
 use lib.Dec.{eqb}
 use lib.ListN.{length, length-append}
 use borrow.Author.Tests.{eqb-true, eqb-false}
-use Rattle.tables.specs.Layout.{agents, rows, startPlace, rowPlace, tableWords}
+use Rattle.tables.specs.Layout.{agents, rows, startPlace, rowPlace}
 use Rattle.tables.specs.Table.{goodTable}
-use Rattle.tables.specs.Frames.{Frame, opens, gives, ends}
+use Rattle.tables.specs.Frames.{Frame}
 use Rattle.tables.proofs.Good.{some, few, some-rows, few-rows}
-use Rattle.digits.specs.Hex.{hexDigits, hexWords}
 use Rattle.digits.proofs.Writes.{hexDigits-length, hexWords-length}
 use Rattle.writing.specs.Writer.{fourAt, frameLine, lineOf, linesOf, rowsFrom, agentsFrom, framesIn, textOf}
 use Rattle.writing.specs.Laws.{rowsOf, textLength}

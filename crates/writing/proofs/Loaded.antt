@@ -1,20 +1,20 @@
 -- The frames in the words of a table that was read are the frames that it was read from. Assumes nothing.
 use mathlib.Core.Path.{_≡_, refl, sym, ap, subst, _∙_}
 use mathlib.Core.List.{List, [], _∷_, _++_}
-use Prim.Native.Nat.{ℕ, zero, suc, _+_, _-_, _≤_, _<_}
+use Prim.Native.Nat.{ℕ, suc, _+_, _-_, _≤_, _<_}
 use native.Mathlib.Numerals.{add-one}
 use native.Mathlib.Omega.{arith}
 use lib.ListN.{length, getD, set, replicate, length-set, length-replicate}
-use lib.Seq.{sets, length-sets, getD-set-same, getD-set-other}
+use lib.Seq.{sets}
 use Rattle.tables.specs.Basics.{first}
 use Rattle.tables.specs.Layout.{agentsPlace, agents, countPlace, rows, startPlace, rowPlace, tableWords}
 use Rattle.tables.specs.Frames.{Frame, opens, gives, ends, malformed}
 use Rattle.tables.proofs.Judging.{fault-some}
 use Rattle.digits.proofs.Writes.{four-of}
 use Rattle.reading.specs.Reader.{inPlace, rowsNext, loaded, tableOf}
-use Rattle.reading.proofs.Stores.{sets-below, sets-above, sets-in}
+use Rattle.reading.proofs.Stores.{sets-in, withOpened, opened-below, opened-above, withGiven, given-below, Now, now-opened, now-given}
 use Rattle.reading.proofs.Accepted.{Placed, placed-first, open-agent, open-next, open-on, give-agent, give-row, give-on, ends-last}
-use Rattle.reading.proofs.ReadGood.{Four, Fours, zeros}
+use Rattle.reading.proofs.ReadGood.{Fours, zeros}
 use Rattle.writing.specs.Writer.{fourAt, rowsFrom, agentsFrom, framesIn}
 
 -- the agents that are still to be opened before the end
@@ -37,50 +37,6 @@ four-stored l ws other p four room same =
     let e2 = at 2 (p + 2) refl (omega arith) in
     let e3 = at 3 (p + 3) refl (omega arith) in
     (λ i. e0 i ∷ e1 i ∷ e2 i ∷ e3 i ∷ []) ∙ sym (four-of ws four)
-
--- ---- the words while frames are put in: agent b is the last, with i rows so far
-
-record Now (tb : List ℕ) (b i : ℕ) : Type 0 where
-  long : length tb ≡ tableWords
-  count : agents tb ≡ b + 1
-  rows-now : rows tb b ≡ i
-  later : (k : ℕ) → countPlace (b + 1) ≤ k → k < 17 → getD tb k 0 ≡ 0
-
--- agent b is opened
-module _ (tb : List ℕ) (b : ℕ) (ws : List ℕ) (long : length tb ≡ tableWords) (room : b < 16) (four : length ws ≡ 4)
-    (later : (k : ℕ) → countPlace b ≤ k → k < 17 → getD tb k 0 ≡ 0) where
-  abbrev opened : List ℕ
-  opened = sets (set tb agentsPlace (b + 1)) (startPlace b) ws
-
-  open-below : (k : ℕ) → 1 ≤ k → k < startPlace b → getD opened k 0 ≡ getD tb k 0
-  open-below k h l = sets-below (set tb agentsPlace (b + 1)) (startPlace b) ws k l ∙ getD-set-other tb agentsPlace k (b + 1) 0 (λ e. omega arith)
-
-  open-above : (k : ℕ) → startPlace b + 4 ≤ k → getD opened k 0 ≡ getD tb k 0
-  open-above k h = sets-above (set tb agentsPlace (b + 1)) (startPlace b) ws k (omega arith) ∙ getD-set-other tb agentsPlace k (b + 1) 0 (λ e. omega arith)
-
-  now-open : Now opened b 0
-  now-open = record {
-    long = length-sets (set tb agentsPlace (b + 1)) (startPlace b) ws ∙ length-set tb agentsPlace (b + 1) ∙ long;
-    count = sets-below (set tb agentsPlace (b + 1)) (startPlace b) ws 0 (omega arith) ∙ getD-set-same tb agentsPlace (b + 1) 0 (omega (arith, long));
-    rows-now = open-below (countPlace b) (omega arith) (omega arith) ∙ later (countPlace b) (omega arith) (omega arith);
-    later = λ k h l. open-below k (omega arith) (omega arith) ∙ later k (omega arith) l;
-  }
-
--- a row is given
-module _ (tb : List ℕ) (b i : ℕ) (ws : List ℕ) (t : Now tb b i) (room : b < 16) (below : i < 32) (four : length ws ≡ 4) where
-  abbrev given : List ℕ
-  given = sets (set tb (countPlace b) (i + 1)) (rowPlace b i) ws
-
-  give-below : (k : ℕ) → (k ≡ countPlace b → ⊥) → k < rowPlace b i → getD given k 0 ≡ getD tb k 0
-  give-below k n h = sets-below (set tb (countPlace b) (i + 1)) (rowPlace b i) ws k h ∙ getD-set-other tb (countPlace b) k (i + 1) 0 n
-
-  now-given : Now given b (i + 1)
-  now-given = record {
-    long = length-sets (set tb (countPlace b) (i + 1)) (rowPlace b i) ws ∙ length-set tb (countPlace b) (i + 1) ∙ t .long;
-    count = give-below 0 (λ e. omega arith) (omega arith) ∙ t .count;
-    rows-now = sets-below (set tb (countPlace b) (i + 1)) (rowPlace b i) ws (countPlace b) (omega arith) ∙ getD-set-same tb (countPlace b) (i + 1) 0 (omega (arith, t .long));
-    later = λ k h l. give-below k (λ e. omega arith) (omega arith) ∙ t .later k h l;
-  }
 
 -- ---- what the frames that are left do not touch, and what they come to
 
@@ -118,10 +74,10 @@ kept (opens b′ ws ∷ fs) tb n b i f t q =
     let room = open-agent n c i b′ ws fs q in
     let few = q .rows in
     let four = f .0 in
-    let tb′ = opened tb c ws (t .long) room four (t .later) in
-    let s = now-open tb c ws (t .long) room four (t .later) in
-    let below = open-below tb c ws (t .long) room four (t .later) in
-    let above = open-above tb c ws (t .long) room four (t .later) in
+    let tb′ = withOpened tb c ws in
+    let s = now-opened tb c ws (t .words) room (t .counts-past) in
+    let below = opened-below tb c ws in
+    let above = opened-above tb c ws in
     let r = kept fs tb′ (n + 1) c 0 (f .1) s (open-on n c i b′ ws fs q) in
     let end = loaded tb′ (c + 1) 0 fs in
     record {
@@ -132,7 +88,7 @@ kept (opens b′ ws ∷ fs) tb n b i f t q =
       agents-all = r .agents-all ∙ omega arith;
       frames =
           agent-frames end c (agentsNext fs) ws fs
-          (four-stored (set tb agentsPlace (c + 1)) ws end (startPlace c) four (omega (arith, length-set tb agentsPlace (c + 1), t .long)) (λ k h l. r .registers k (omega arith) (omega arith)))
+          (four-stored (set tb agentsPlace (c + 1)) ws end (startPlace c) four (omega (arith, length-set tb agentsPlace (c + 1), t .words)) (λ k h l. r .registers k (omega arith) (omega arith)))
           (r .count ∙ omega arith) (r .frames)
           ∙ ap (λ (m : ℕ). opens m ws ∷ fs) (sym (open-next n c i b′ ws fs q));
     }
@@ -140,15 +96,15 @@ kept (gives b′ ws ∷ fs) tb n b i f t q =
     let room : b < 16 = omega (arith, q .agents) in
     let below = give-row n (b + 1) i b′ ws fs q in
     let four = f .0 in
-    let tb′ = given tb b i ws t room below four in
-    let s = now-given tb b i ws t room below four in
-    let under = give-below tb b i ws t room below four in
+    let tb′ = withGiven tb b i ws in
+    let s = now-given tb b i ws t room in
+    let under = given-below tb b i ws in
     let end = loaded tb′ (b + 1) (i + 1) fs in
     let r = kept fs tb′ (n + 1) b (i + 1) (f .1) s (give-on n (b + 1) i b′ ws fs q) in
     let z : b ≡ b + 1 - 1 = omega arith in
     let m : b′ ≡ b = omega (arith, give-agent n (b + 1) i b′ ws fs q) in
-    let w = four-stored (set tb (countPlace b) (i + 1)) ws end (rowPlace b i) four (omega (arith, length-set tb (countPlace b) (i + 1), t .long)) (λ k h l. r .words k (omega arith) (omega arith)) in
-    subst (λ (a : ℕ). Kept tb (loaded (sets (set tb (countPlace a) (i + 1)) (rowPlace a i) ws) (b + 1) (i + 1) fs) b i (gives b′ ws ∷ fs)) z
+    let w = four-stored (set tb (countPlace b) (i + 1)) ws end (rowPlace b i) four (omega (arith, length-set tb (countPlace b) (i + 1), t .words)) (λ k h l. r .words k (omega arith) (omega arith)) in
+    subst (λ (a : ℕ). Kept tb (loaded (withGiven tb a i ws) (b + 1) (i + 1) fs) b i (gives b′ ws ∷ fs)) z
     (record {
       counts = λ k h l. r .counts k h l ∙ under k (λ e. omega arith) (omega arith);
       registers = λ k h l. r .registers k h l ∙ under k (λ e. omega arith) (omega arith);
@@ -171,8 +127,8 @@ from-first (gives b ws ∷ fs) tb long zero-words f q = absurd (let y = give-age
 from-first (opens b ws ∷ fs) tb long zero-words f q =
     let room = open-agent 1 0 0 b ws fs q in
     let four = f .0 in
-    let tb′ = opened tb 0 ws long room four (λ k h l. zero-words k) in
-    let s = now-open tb 0 ws long room four (λ k h l. zero-words k) in
+    let tb′ = withOpened tb 0 ws in
+    let s = now-opened tb 0 ws long room (λ k h l. zero-words k) in
     let r = kept fs tb′ 2 0 0 (f .1) s (open-on 1 0 0 b ws fs q) in
     let end = loaded tb′ 1 0 fs in
     ap (agentsFrom end 0) (r .agents-all ∙ omega arith)

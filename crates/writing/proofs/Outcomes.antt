@@ -6,11 +6,18 @@ use Prim.Native.Nat.{ℕ, zero, suc, _≤_, _<_}
 use native.Mathlib.Omega.{arith}
 use lib.Dec.{ltb}
 use lib.ListN.{length, take, drop}
+use lib.Seq.{length-take-le}
 use borrow.Author.Tests.{lt-ltb, le-ltb, ltb-true, ltb-false}
 use Rattle.tables.specs.Layout.{tableWords}
+use Rattle.tables.specs.Table.{goodTable}
 use Rattle.tables.specs.Calls.{checkReply}
+use Rattle.tables.proofs.Good.{checked-good}
 use Rattle.writing.specs.Writer.{textOf}
 use Rattle.writing.specs.Calls.{WriteOutcome, wrote, writeOutcome, bytesInto, writeInto}
+
+-- the words of a table that is checked
+pub checked-words : (tb : List ℕ) → checkReply tb ≡ 0 → (length (take tableWords tb) ≡ tableWords) × (goodTable (take tableWords tb) ≡ true)
+checked-words tb ok = let g = checked-good tb ok in (length-take-le tableWords tb (g .0), g .1)
 
 module _ (bs text : List ℕ) where
   no-room : length text < length bs → bytesInto bs text ≡ writeOutcome (wrote 20 (length bs)) text

@@ -2,7 +2,7 @@
 use mathlib.Core.Path.{_≡_, refl, sym, ap, _∙_}
 use mathlib.Core.Bool.{Bool, true, false}
 use mathlib.Core.List.{List, [], _∷_, _++_}
-use Prim.Native.Nat.{ℕ, zero, suc, _+_, _*_, _-_, _/_, _%_, _≤_, _<_}
+use Prim.Native.Nat.{ℕ, zero, suc, _+_, _-_, _/_, _%_, _≤_, _<_}
 use native.Mathlib.Omega.{arith}
 use lib.Dec.{ltb, eqb}
 use lib.ListN.{length, getD}
@@ -11,7 +11,7 @@ use borrow.Author.Tests.{ltb-true, ltb-false, eqb-true, eqb-false}
 use Rattle.tables.specs.Layout.{agents, rows, countPlace, startPlace, rowPlace, tableWords}
 use Rattle.tables.specs.Table.{goodTable}
 use Rattle.tables.specs.Frames.{Frame, opens, gives, ends, malformed}
-use Rattle.tables.proofs.Good.{few, few-rows, no-count, no-register, no-such-row}
+use Rattle.tables.proofs.Good.{no-count, no-register, no-such-row}
 use Rattle.reading.specs.Reader.{rowsNext}
 use Rattle.writing.specs.Writer.{fourAt, rowsFrom, agentsFrom, framesIn}
 use Rattle.writing.proofs.Loaded.{agentsNext}

@@ -1,7 +1,7 @@
 -- `put_word` meets its contract: no sum passes 64 bits, since what a mask leaves is at most the mask. Assumes nothing.
 use mathlib.Core.Path.{ap, _∙_}
 use mathlib.Core.List.{List}
-use Prim.Native.Nat.{ℕ, _+_, _*_, _/_}
+use Prim.Native.Nat.{ℕ, _+_, _/_}
 use native.Mathlib.Omega.{arith}
 use lib.Bits.{and-le-r}
 use lib.Seq.{sets}

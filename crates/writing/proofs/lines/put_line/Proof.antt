@@ -2,7 +2,7 @@
 use native.Mathlib.Omega.{arith}
 use mathlib.Core.Path.{_≡_, refl, _∙_}
 use mathlib.Core.List.{[], _∷_, _++_}
-use Prim.Native.Nat.{_+_, _*_}
+use Prim.Native.Nat.{_+_}
 use lib.ListN.{length, set, length-set}
 use Rattle.digits.specs.Hex.{hexDigits, hexWords}
 use Rattle.digits.proofs.Writes.{digits-then, run-then, hexWords-length}

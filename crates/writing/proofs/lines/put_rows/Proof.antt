@@ -1,7 +1,6 @@
 -- `put_rows` meets its contract. The invariant: the rows that are left, written from here, make the whole. Assumes nothing.
 use native.Mathlib.Omega.{arith}
 use mathlib.Core.Path.{_≡_, refl, ap, _∙_}
-use mathlib.Core.List.{List}
 use Prim.Native.Nat.{ℕ, _+_, _*_, _-_, _≤_}
 use lib.ListN.{length}
 use lib.Seq.{sets}

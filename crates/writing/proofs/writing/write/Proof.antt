@@ -1,26 +1,16 @@
 -- `write` meets its contract. Assumes nothing.
 use native.Mathlib.Omega.{arith}
-use mathlib.Core.Path.{_≡_, sym, ap, _∙_}
-use mathlib.Core.Bool.{true}
-use mathlib.Core.List.{List, _++_}
+use mathlib.Core.Path.{sym, ap, _∙_}
 use Prim.Native.Nat.{ℕ, _≤_}
-use lib.ListN.{length, take, drop}
-use lib.Seq.{length-take-le}
+use lib.ListN.{length, take}
 use Rattle.tables.specs.Layout.{tableWords}
-use Rattle.tables.specs.Table.{goodTable}
-use Rattle.tables.specs.Calls.{checkReply}
-use Rattle.tables.proofs.Good.{checked-good}
 use Rattle.digits.proofs.Writes.{from-start}
 use Rattle.writing.specs.Writer.{textOf}
 use Rattle.writing.specs.Calls.{wrote, writeOutcome}
-use Rattle.writing.proofs.Outcomes.{table-refused, too-long, all-written}
+use Rattle.writing.proofs.Outcomes.{checked-words, table-refused, too-long, all-written}
 use borrow.Author.Needs.{needs}
 use Rattle.writing.proofs.writing.write.Statement.{statement}
 use Rattle.writing.proofs.writing.write.Tie as tie
-
--- what an accepted table's words are
-words-are : (tb : List ℕ) → checkReply tb ≡ 0 → (length (take tableWords tb) ≡ tableWords) × (goodTable (take tableWords tb) ≡ true)
-words-are tb ok = let g = checked-good tb ok in (length-take-le tableWords tb (g .0), g .1)
 
 check-requires : tie.Need-check-requires
 check-requires c κs = search needs
@@ -47,17 +37,17 @@ returns-3 c =
     ∙ sym (all-written (g .table .now) (g .text .now) ok room)
 
 slice-aggregate-words : tie.Need-slice-aggregate-words
-slice-aggregate-words c = sym (words-are _ (sym (c .before .before .check .ensures) ∙ c .before .if1 .left) .0)
+slice-aggregate-words c = sym (checked-words _ (sym (c .before .before .check .ensures) ∙ c .before .if1 .left) .0)
 
 text-length-requires : tie.Need-text-length-requires
-text-length-requires c κs = words-are _ (sym (c .before .before .check .ensures) ∙ c .before .if1 .left)
+text-length-requires c κs = checked-words _ (sym (c .before .before .check .ensures) ∙ c .before .if1 .left)
 
 cast-t9 : tie.Need-cast-t9
 cast-t9 c = search needs
 
 put-text-requires : tie.Need-put-text-requires
 put-text-requires c κs =
-    let w = words-are _ (sym (c .before .before .before .before .before .check .ensures) ∙ c .before .before .before .before .if1 .left) in
+    let w = checked-words _ (sym (c .before .before .before .before .before .check .ensures) ∙ c .before .before .before .before .if1 .left) in
     let e = c .before .before .text-length .ensures .0 in
     (w .0, w .1, omega (arith, c .before .if2 .left))
 
