@@ -10,6 +10,13 @@ use borrow.Author.Needs.{needs}
 use Rattle.writing.proofs.lines.put_end.Statement.{statement}
 use Rattle.writing.proofs.lines.put_end.Tie as tie
 
+-- three stores in a row
+stored : (l : List ℕ) (p x y z : ℕ) → set (set (set l p x) (p + 1) y) (p + 2) z ≡ sets l p (x ∷ y ∷ z ∷ [])
+stored l p x y z = let two : p + 2 ≡ suc (suc p) = omega arith in rw (add-one p, two)
+
+returns : tie.Need-returns
+returns c = let g = c .args in stored (g .text .now) (g .at) _ _ _
+
 array-read-text : tie.Need-array-read-text
 array-read-text c = search needs
 
@@ -36,13 +43,6 @@ slice-write-text-3 c = simp length-set (omega arith)
 
 same-length : tie.Need-same-length
 same-length c = search needs
-
--- three stores in a row
-stored : (l : List ℕ) (p x y z : ℕ) → set (set (set l p x) (p + 1) y) (p + 2) z ≡ sets l p (x ∷ y ∷ z ∷ [])
-stored l p x y z = let two : p + 2 ≡ suc (suc p) = omega arith in rw (add-one p, two)
-
-returns : tie.Need-returns
-returns c = let g = c .args in stored (g .text .now) (g .at) _ _ _
 
 pub put-end-spec : {M : Type 1} → statement M
 put-end-spec =
