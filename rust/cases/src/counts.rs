@@ -7,6 +7,7 @@ use reference::table::RECV;
 use reference::Table;
 
 use crate::choices::Choice;
+use crate::suite::Kind;
 
 /// A call, or the trace program, whose refusals of choice lines are counted apart.
 #[derive(Clone, Copy, Debug, PartialEq, Eq)]
@@ -85,6 +86,7 @@ pub fn decided_by(messages: &[Message]) -> Option<Tie> {
 pub struct Counts {
     pub cases: u64,
     replies: [[u64; REPLIES]; CALLS.len()],
+    written: [u64; Kind::ALL.len()],
     long_runs: u64,
     ties: [u64; 3],
     pairs: u64,
@@ -93,6 +95,11 @@ pub struct Counts {
 impl Counts {
     pub fn reply(&mut self, call: Call, reply: u32) {
         self.replies[call as usize][reply as usize] += 1;
+    }
+
+    /// Counts the table of a case of this kind, accepted, written and read again.
+    pub fn written(&mut self, kind: Kind) {
+        self.written[kind as usize] += 1;
     }
 
     /// Counts a run's accepted steps, and the messages taken in them.
@@ -150,6 +157,13 @@ impl Counts {
                 at_least(format!("reply {reply} of {call:?}"), count, floor);
             }
         }
+        // A kind of case whose tables are not written would be missed among all.
+        for kind in Kind::ALL {
+            let what = format!("tables of {kind:?} cases written and read again");
+            at_least(what, self.written[kind as usize], 1_000);
+        }
+        let what = "tables written and read again".to_string();
+        at_least(what, self.written.iter().sum(), 60_000);
         at_least("runs of 20 or more accepted steps".to_string(), self.long_runs, 10_000);
         for tie in [Tie::Late, Tie::Agent, Tie::Row] {
             let what = format!("RECVs decided by the rule {tie:?}");
@@ -188,6 +202,9 @@ impl fmt::Display for Counts {
             f,
             "that late can be run at the greater of the clock and its early, which is below."
         )?;
+        writeln!(f, "{} tables written and read again:", self.written.iter().sum::<u64>())?;
+        let of_kind = Kind::ALL.map(|kind| format!("{kind:?} {}", self.written[kind as usize]));
+        writeln!(f, "{}", of_kind.join(", "))?;
         writeln!(f, "{} runs of 20 or more accepted steps", self.long_runs)?;
         let [late, agent, row] = self.ties;
         writeln!(f, "RECVs decided by late {late}, by agent {agent}, by row {row}")?;

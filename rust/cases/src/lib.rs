@@ -1,6 +1,6 @@
 //! Seeded random cases, valid and damaged, on which an implementation of the papers (a [`Board`])
 //! is compared with the reference: replies, lines, lengths, counts and every word or byte of the lent
-//! buffers, and those around them.
+//! buffers, and those around them. Every accepted table of theirs is written out and read again.
 
 pub mod board;
 pub mod choices;

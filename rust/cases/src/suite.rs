@@ -2,7 +2,7 @@
 
 use std::fmt;
 
-use reference::reader::table_of_text;
+use reference::reply::{ACCEPTED, TEXT_TOO_LONG};
 use reference::trace::split_table;
 use reference::{State, Table, STATE_WORDS, TABLE_WORDS};
 
@@ -29,6 +29,20 @@ pub enum Kind {
     Pair,
     Trace,
     Write,
+}
+
+impl Kind {
+    pub const ALL: [Kind; 9] = [
+        Kind::Read,
+        Kind::Check,
+        Kind::Start,
+        Kind::Step,
+        Kind::Run,
+        Kind::LongRun,
+        Kind::Pair,
+        Kind::Trace,
+        Kind::Write,
+    ];
 }
 
 /// How many cases of each kind a comparison has.
@@ -79,7 +93,7 @@ pub fn compare(board: &dyn Board, plan: &Plan, seed: u64) -> Result<Counts, Fail
     Ok(counts)
 }
 
-/// Compares one case.
+/// Compares one case, and then, whatever it is about, what the board writes of its table.
 pub fn compare_one(
     board: &dyn Board,
     kind: Kind,
@@ -89,7 +103,8 @@ pub fn compare_one(
 ) -> Result<(), Failure> {
     let rng = &mut Rng::of_case(seed, kind as usize, index);
     counts.cases += 1;
-    let outcome = match kind {
+    // Each gives its table as it was lent, accepted or not.
+    let table = match kind {
         Kind::Read => read_case(rng, board, counts),
         Kind::Check => check_case(rng, board, counts),
         Kind::Start => start_case(rng, board, counts),
@@ -100,10 +115,12 @@ pub fn compare_one(
         Kind::Trace => trace_case(rng, board, counts),
         Kind::Write => write_case(rng, board, counts),
     };
-    outcome.map_err(|what| Failure { seed, kind, index, what })
+    table
+        .and_then(|table| written_and_read(rng, board, counts, kind, &table))
+        .map_err(|what| Failure { seed, kind, index, what })
 }
 
-type Outcome = Result<(), String>;
+type Outcome<T = ()> = Result<T, String>;
 
 /// Demands that what the board gave is what was expected.
 fn same<T: PartialEq + fmt::Debug + ?Sized>(what: &str, expected: &T, got: &T) -> Outcome {
@@ -147,7 +164,73 @@ fn lent_table(rng: &mut Rng, size: Size, parts: usize) -> (Table, Lent) {
     (table, lent)
 }
 
-fn read_case(rng: &mut Rng, board: &dyn Board, counts: &mut Counts) -> Outcome {
+/// The length of a table's text; none where the table is refused.
+fn text_length(table: &Lent) -> Option<usize> {
+    match reference::write(table.words(), &mut []) {
+        (TEXT_TOO_LONG, length) => Some(length as usize),
+        _ => None,
+    }
+}
+
+/// Compares a write into a buffer of so many bytes, and gives the reply and the buffer.
+fn compare_write(
+    rng: &mut Rng,
+    board: &dyn Board,
+    table: &Lent,
+    room: usize,
+) -> Outcome<(u32, Lent<u8>)> {
+    let before = table.clone();
+    let mut expected = Lent::for_text(rng, room);
+    let mut got = expected.clone();
+    let told = reference::write(table.words(), expected.bytes_mut());
+    same("reply and length", &told, &board.write(table.words(), got.bytes_mut()))
+        .and_then(|()| same_memory("the text", &expected, &got))
+        .and_then(|()| same_memory("the table", &before, table))
+        .map_err(|what| {
+            let table = listed(before.words());
+            format!("write: {what}\na buffer of {room} bytes\ntable: {table}")
+        })?;
+    Ok((told.0, got))
+}
+
+/// Demands of a case's table, where it is accepted, that the board writes it as the reference does and
+/// reads the same words again.
+fn written_and_read(
+    rng: &mut Rng,
+    board: &dyn Board,
+    counts: &mut Counts,
+    kind: Kind,
+    table: &Lent,
+) -> Outcome {
+    let Some(length) = text_length(table) else { return Ok(()) };
+    let room = length + rng.pick(&[0, 0, 1, 40]);
+    let (_, text) = compare_write(rng, board, table, room)?;
+    let words = &table.words()[..TABLE_WORDS];
+    let mut got = Lent::blank(rng, TABLE_WORDS, true);
+    let mut expected = got.clone();
+    expected.words_mut()[..TABLE_WORDS].copy_from_slice(words);
+    let told = board.read(&text.bytes()[..length], got.words_mut());
+    same("read of what was written", &(ACCEPTED, 0), &told)
+        .and_then(|()| same_memory("the table read again", &expected, &got))
+        .map_err(|what| format!("{what}\ntable: {}", listed(words)))?;
+    counts.written(kind);
+    Ok(())
+}
+
+/// Each table into buffers of several lengths.
+fn write_case(rng: &mut Rng, board: &dyn Board, counts: &mut Counts) -> Outcome<Lent> {
+    let size = any_size(rng);
+    let (table, lent) = lent_table(rng, size, 30);
+    // A damaged table may still be accepted, with another length.
+    let length = text_length(&lent).unwrap_or_else(|| text(&table).len());
+    for room in [0, rng.below(length), length - 1, length, length + rng.within(1, 40)] {
+        let (reply, _) = compare_write(rng, board, &lent, room)?;
+        counts.reply(Call::Write, reply);
+    }
+    Ok(lent)
+}
+
+fn read_case(rng: &mut Rng, board: &dyn Board, counts: &mut Counts) -> Outcome<Lent> {
     let size = any_size(rng);
     let table = table(rng, size);
     let good = text(&table);
@@ -163,79 +246,25 @@ fn read_case(rng: &mut Rng, board: &dyn Board, counts: &mut Counts) -> Outcome {
     let outcome = same("reply and line", &told, &board.read(lent, got.words_mut()))
         .and_then(|()| same_memory("the table", &expected, &got))
         .and_then(|()| match told.0 {
-            // What is read is accepted by the check, and written out again byte for byte.
-            0 => same("check of what was read", &0, &board.check(got.words()))
-                .and_then(|()| written_again(rng, board, counts, got.words(), lent)),
+            ACCEPTED => accepted_text(board, lent, got.words()),
             _ => Ok(()),
         });
     counts.reply(Call::Read, told.0);
-    outcome.map_err(|what| format!("{what}\ntext:\n{}", String::from_utf8_lossy(lent)))
+    outcome.map_err(|what| format!("{what}\ntext:\n{}", String::from_utf8_lossy(lent)))?;
+    Ok(got)
 }
 
-/// Demands that words which were read from a text are written out as that text.
-fn written_again(
-    rng: &mut Rng,
-    board: &dyn Board,
-    counts: &mut Counts,
-    table: &[u32],
-    text: &[u8],
-) -> Outcome {
-    let room = text.len() + rng.pick(&[0, 0, 1, 40]);
-    let mut got = Lent::for_text(rng, room);
-    let mut expected = got.clone();
-    expected.bytes_mut()[..text.len()].copy_from_slice(text);
-    counts.reply(Call::Write, 0);
-    let told = (0, text.len() as u32);
-    same("write of what was read", &told, &board.write(table, got.bytes_mut()))?;
-    same_memory("the text written again", &expected, &got)
+/// Demands of words that were read from a text that the check accepts them and that the text is theirs:
+/// a board that writes as the reference does writes it out again byte for byte.
+fn accepted_text(board: &dyn Board, text: &[u8], table: &[u32]) -> Outcome {
+    same("check of what was read", &ACCEPTED, &board.check(table))?;
+    let mut again = vec![0; text.len()];
+    let told = (ACCEPTED, text.len() as u32);
+    same("the reference's write of what was read", &told, &reference::write(table, &mut again))?;
+    same("the reference's text of what was read", text, &again)
 }
 
-/// Each table into buffers of several lengths, and what was written is read again.
-fn write_case(rng: &mut Rng, board: &dyn Board, counts: &mut Counts) -> Outcome {
-    let size = any_size(rng);
-    let (table, lent) = lent_table(rng, size, 30);
-    let before = lent.clone();
-    // A damaged table may still be accepted, with another length.
-    let length = match reference::write(lent.words(), &mut []).1 {
-        0 => text(&table).len(),
-        needed => needed as usize,
-    };
-    for room in [0, rng.below(length), length - 1, length, length + rng.within(1, 40)] {
-        compare_write(rng, board, counts, &lent, room)
-            .and_then(|()| same_memory("the table", &before, &lent))
-            .map_err(|what| {
-                let table = listed(before.words());
-                format!("{what}\na buffer of {room} bytes\ntable: {table}")
-            })?;
-    }
-    Ok(())
-}
-
-/// Compares a write into a buffer of so many bytes, and reads again what was written.
-fn compare_write(
-    rng: &mut Rng,
-    board: &dyn Board,
-    counts: &mut Counts,
-    table: &Lent,
-    room: usize,
-) -> Outcome {
-    let mut expected = Lent::for_text(rng, room);
-    let mut got = expected.clone();
-    let told = reference::write(table.words(), expected.bytes_mut());
-    counts.reply(Call::Write, told.0);
-    same("reply and length", &told, &board.write(table.words(), got.bytes_mut()))?;
-    same_memory("the text", &expected, &got)?;
-    if told.0 != 0 {
-        return Ok(());
-    }
-    let mut again = Lent::blank(rng, TABLE_WORDS, true);
-    let text = &got.bytes()[..told.1 as usize];
-    same("read of what was written", &(0, 0), &board.read(text, again.words_mut()))?;
-    let (first, second) = (&table.words()[..TABLE_WORDS], &again.words()[..TABLE_WORDS]);
-    same("the words written and those read again", first, second)
-}
-
-fn check_case(rng: &mut Rng, board: &dyn Board, counts: &mut Counts) -> Outcome {
+fn check_case(rng: &mut Rng, board: &dyn Board, counts: &mut Counts) -> Outcome<Lent> {
     let size = any_size(rng);
     let (_, lent) = lent_table(rng, size, 60);
     let before = lent.clone();
@@ -243,10 +272,11 @@ fn check_case(rng: &mut Rng, board: &dyn Board, counts: &mut Counts) -> Outcome 
     let outcome = same("reply", &reply, &board.check(lent.words()))
         .and_then(|()| same_memory("the table", &before, &lent));
     counts.reply(Call::Check, reply);
-    outcome.map_err(|what| format!("{what}\ntable: {}", listed(before.words())))
+    outcome.map_err(|what| format!("{what}\ntable: {}", listed(before.words())))?;
+    Ok(lent)
 }
 
-fn start_case(rng: &mut Rng, board: &dyn Board, counts: &mut Counts) -> Outcome {
+fn start_case(rng: &mut Rng, board: &dyn Board, counts: &mut Counts) -> Outcome<Lent> {
     let size = any_size(rng);
     let (_, lent) = lent_table(rng, size, 30);
     let before = lent.clone();
@@ -257,7 +287,8 @@ fn start_case(rng: &mut Rng, board: &dyn Board, counts: &mut Counts) -> Outcome 
         .and_then(|()| same_memory("the state", &expected, &got))
         .and_then(|()| same_memory("the table", &before, &lent));
     counts.reply(Call::Start, reply);
-    outcome.map_err(|what| format!("{what}\ntable: {}", listed(before.words())))
+    outcome.map_err(|what| format!("{what}\ntable: {}", listed(before.words())))?;
+    Ok(lent)
 }
 
 /// A state that some run reaches.
@@ -270,7 +301,7 @@ fn reached_state(rng: &mut Rng, table: &Table) -> State {
     state
 }
 
-fn step_case(rng: &mut Rng, board: &dyn Board, counts: &mut Counts) -> Outcome {
+fn step_case(rng: &mut Rng, board: &dyn Board, counts: &mut Counts) -> Outcome<Lent> {
     let size = any_size(rng);
     let (table, lent) = lent_table(rng, size, 8);
     let before = lent.clone();
@@ -297,7 +328,8 @@ fn step_case(rng: &mut Rng, board: &dyn Board, counts: &mut Counts) -> Outcome {
     outcome.map_err(|what| {
         let (table, state) = (listed(before.words()), listed(&words));
         format!("{what}\nagent {agent}, time {time}\ntable: {table}\nstate: {state}")
-    })
+    })?;
+    Ok(lent)
 }
 
 /// Compares a run over these words.
@@ -345,17 +377,18 @@ fn mixed_choices(rng: &mut Rng, table: &Table) -> Vec<Choice> {
     choices
 }
 
-fn run_case(rng: &mut Rng, board: &dyn Board, counts: &mut Counts) -> Outcome {
+fn run_case(rng: &mut Rng, board: &dyn Board, counts: &mut Counts) -> Outcome<Lent> {
     let size = any_size(rng);
     let (table, lent) = lent_table(rng, size, 10);
     let mut choices = words(&mixed_choices(rng, &table));
     if rng.percent(10) {
         choices.push(rng.word());
     }
-    compare_run(rng, board, counts, &lent, false, &choices).map(drop)
+    compare_run(rng, board, counts, &lent, false, &choices)?;
+    Ok(lent)
 }
 
-fn long_run_case(rng: &mut Rng, board: &dyn Board, counts: &mut Counts) -> Outcome {
+fn long_run_case(rng: &mut Rng, board: &dyn Board, counts: &mut Counts) -> Outcome<Lent> {
     let table = table(rng, Size::Long);
     let order = rng.pick(&[Order::LowestFirst, Order::HighestFirst, Order::Random]);
     let mut choices = schedule(rng, &table, order);
@@ -363,7 +396,8 @@ fn long_run_case(rng: &mut Rng, board: &dyn Board, counts: &mut Counts) -> Outco
         choices.push((rng.word(), rng.word()));
     }
     let lent = Lent::new(rng, &table.to_words(), true);
-    compare_run(rng, board, counts, &lent, true, &words(&choices)).map(drop)
+    compare_run(rng, board, counts, &lent, true, &words(&choices))?;
+    Ok(lent)
 }
 
 /// Position and registers.
@@ -401,7 +435,7 @@ fn prefixes(one: &[Vec<AgentState>], other: &[Vec<AgentState>]) -> Outcome {
 
 /// Demand 3: two schedules of one table in different orders, both to the end of all agents, and a
 /// third that stops on the way.
-fn pair_case(rng: &mut Rng, board: &dyn Board, counts: &mut Counts) -> Outcome {
+fn pair_case(rng: &mut Rng, board: &dyn Board, counts: &mut Counts) -> Outcome<Lent> {
     let size = rng.pick(&[Size::Small, Size::Long, Size::Any]);
     let table = table(rng, size);
     let table_words = table.to_words();
@@ -446,7 +480,7 @@ fn pair_case(rng: &mut Rng, board: &dyn Board, counts: &mut Counts) -> Outcome {
     if agents_of(&one) != agents_of(&other) {
         counts.pair();
     }
-    Ok(())
+    Ok(lent)
 }
 
 /// An input of the trace program of about the longest length: below, equal or above.
@@ -460,7 +494,7 @@ fn pad(rng: &mut Rng, input: &mut Vec<u8>) {
     input.truncate(limit);
 }
 
-fn trace_case(rng: &mut Rng, board: &dyn Board, counts: &mut Counts) -> Outcome {
+fn trace_case(rng: &mut Rng, board: &dyn Board, counts: &mut Counts) -> Outcome<Lent> {
     let size = any_size(rng);
     let table = table(rng, size);
     let mut input = if rng.percent(40) { damaged(rng, &table) } else { text(&table) };
@@ -479,10 +513,14 @@ fn trace_case(rng: &mut Rng, board: &dyn Board, counts: &mut Counts) -> Outcome 
     let last = shown(&expected[expected.len() - 9..]);
     let reply = u32::from_str_radix(&last[2..4], 16).expect("digits");
     let is_of_a_line = LINE_REPLIES.contains(&(reply as usize));
-    let call = match is_of_a_line && table_of_text(split_table(&input).0).is_ok() {
+    let mut words = Lent::blank(rng, TABLE_WORDS, true);
+    let is_table_accepted = reference::read(split_table(&input).0, words.words_mut()).0 == ACCEPTED;
+    let call = match is_of_a_line && is_table_accepted {
         true => Call::Choices,
         false => Call::Trace,
     };
     counts.reply(call, reply);
-    outcome.map_err(|what| format!("{what}\ninput of {} bytes:\n{}", input.len(), shown(&input)))
+    outcome
+        .map_err(|what| format!("{what}\ninput of {} bytes:\n{}", input.len(), shown(&input)))?;
+    Ok(words)
 }

@@ -18,7 +18,7 @@ fn the_optimised_implementation_passes_and_the_floors_are_met() {
 
 #[test]
 fn the_narrow_search_passes() {
-    let board = Faulty { step: quick::step_narrow, run: quick::run_narrow, ..GOOD };
+    let board = Faulty { step: &quick::step_narrow, run: quick::run_narrow, ..GOOD };
     let plan = Plan(vec![(Kind::Step, 20_000), (Kind::LongRun, 10_000)]);
     compare(&board, &plan, 2).unwrap_or_else(|failure| panic!("{failure}"));
 }
@@ -92,14 +92,14 @@ fn faults_of_the_check_are_found() {
 #[test]
 fn faults_of_the_step_are_found() {
     let all = |_: &[u32], _: &mut [u32], _: u32, _: u32| 15;
-    is_found("refuses everything", &Faulty { step: all, ..GOOD }, Kind::Step);
+    is_found("refuses everything", &Faulty { step: &all, ..GOOD }, Kind::Step);
     let early = |table: &[u32], state: &mut [u32], agent, time: u32| match quick::step(
         table, state, agent, time,
     ) {
         12 => quick::step(table, state, agent, time + 1),
         reply => reply,
     };
-    is_found("takes the time before the clock", &Faulty { step: early, ..GOOD }, Kind::Step);
+    is_found("takes the time before the clock", &Faulty { step: &early, ..GOOD }, Kind::Step);
 }
 
 #[test]

@@ -2,7 +2,10 @@
 
 mod faulty;
 
+use std::cell::{Cell, RefCell};
+
 use cases::suite::Kind;
+use cases::{compare, layout, Plan};
 use faulty::{is_found, Faulty, Told, GOOD};
 use reference::TABLE_WORDS;
 
@@ -151,11 +154,57 @@ fn fill(table: &[u32], text: &mut [u8]) {
 fn faults_of_the_text_that_is_written_are_found() {
     for (fault, wrong) in WRONG_TEXTS {
         let write = |table: &[u32], text: &mut [u8]| write_wrong(table, text, wrong);
-        let board = Faulty { write: &write, ..GOOD };
-        is_found(fault, &board, Kind::Write);
-        // By the text that was read, without the reference's.
-        is_found(fault, &board, Kind::Read);
+        is_found(fault, &Faulty { write: &write, ..GOOD }, Kind::Write);
     }
+}
+
+#[test]
+fn a_case_of_every_kind_has_its_table_written_and_read_again() {
+    // Any fault of a text will do.
+    let (fault, wrong) = WRONG_TEXTS[0];
+    let write = |table: &[u32], text: &mut [u8]| write_wrong(table, text, wrong);
+    let last = RefCell::new(None);
+    let write_and_keep = |table: &[u32], text: &mut [u8]| {
+        let told = quick::write(table, text);
+        if told.0 == 0 {
+            last.replace(Some(text[..told.1 as usize].to_vec()));
+        }
+        told
+    };
+    let refuse_the_last = |text: &[u8], table: &mut [u32]| match last.borrow().as_deref() {
+        Some(last) if last == text => (3, 1),
+        _ => quick::read(text, table),
+    };
+    for kind in Kind::ALL {
+        is_found(fault, &Faulty { write: &write, ..GOOD }, kind);
+        let board = Faulty { write: &write_and_keep, read: &refuse_the_last, ..GOOD };
+        is_found("refuses the text that it wrote last", &board, kind);
+    }
+}
+
+/// Cases of reads and writes alone do not find it: until a step is made it writes as it must.
+#[test]
+fn a_writer_that_keeps_a_register_of_a_step_is_found_in_cases_of_steps() {
+    let kept = Cell::new(None);
+    let step = |table: &[u32], state: &mut [u32], agent: u32, time: u32| {
+        let reply = quick::step(table, state, agent, time);
+        if reply == 0 {
+            kept.set(Some(state[layout::register(0, 0)]));
+        }
+        reply
+    };
+    let write = |table: &[u32], text: &mut [u8]| {
+        let mut table = table.to_vec();
+        let first = table.get_mut(layout::register(0, 0));
+        if let (Some(register), Some(value)) = (first, kept.get()) {
+            *register = value;
+        }
+        quick::write(&table, text)
+    };
+    let board = Faulty { step: &step, write: &write, ..GOOD };
+    let plan = Plan(vec![(Kind::Read, 2_000), (Kind::Write, 2_000)]);
+    compare(&board, &plan, 1).unwrap_or_else(|failure| panic!("{failure}"));
+    is_found("writes the register of a step", &board, Kind::Step);
 }
 
 #[test]

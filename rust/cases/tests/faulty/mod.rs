@@ -34,12 +34,14 @@ impl Board for Quick {
 /// A reply with a line, a length or a count.
 pub type Told = (u32, u32);
 
+type Step<'f> = dyn Fn(&[u32], &mut [u32], u32, u32) -> u32 + 'f;
+
 /// A board with one fault, laid over the good one.
 pub struct Faulty<'f> {
     pub read: &'f dyn Fn(&[u8], &mut [u32]) -> Told,
     pub write: &'f dyn Fn(&[u32], &mut [u8]) -> Told,
     pub check: fn(&[u32]) -> u32,
-    pub step: fn(&[u32], &mut [u32], u32, u32) -> u32,
+    pub step: &'f Step<'f>,
     pub run: fn(&[u32], &mut [u32], &[u32]) -> Told,
     pub trace: &'f dyn Fn(&[u8]) -> Vec<u8>,
 }
@@ -48,7 +50,7 @@ pub const GOOD: Faulty = Faulty {
     read: &quick::read,
     write: &quick::write,
     check: quick::check,
-    step: quick::step,
+    step: &quick::step,
     run: quick::run,
     trace: &|input| Quick.trace(input),
 };
