@@ -26,7 +26,12 @@ fn the_narrow_search_passes() {
 #[test]
 fn a_comparison_of_nothing_is_below_every_floor() {
     let counts = compare(&Quick, &Plan(vec![]), 1).unwrap();
-    assert!(counts.below_floors().len() > 20);
+    let short = counts.below_floors();
+    assert!(short.len() > 20);
+    for kind in Kind::ALL {
+        let what = format!("tables of {kind:?} cases written and read again: 0, ");
+        assert!(short.iter().any(|told| told.starts_with(&what)), "no floor: {what}");
+    }
 }
 
 #[test]
