@@ -1,7 +1,7 @@
--- Tables and their texts, computed: 01's example, the shortest text, and what is refused. Assumes nothing.
+-- Tables and their texts, computed: 01's example, the shortest text and the length of the longest, and what is refused. Assumes nothing.
 use mathlib.Core.Bool.{Bool, _&&_}
 use mathlib.Core.List.{List, [], _∷_, _++_}
-use Prim.Native.Nat.{ℕ}
+use Prim.Native.Nat.{ℕ, zero, suc}
 use lib.Dec.{T, eqb}
 use lib.ListN.{length, take, replicate}
 use Rattle.tables.specs.Basics.{first, every, allBelow, allZero, zeroFrom}
@@ -13,6 +13,7 @@ use Rattle.tables.specs.Calls.{checkReply}
 use Rattle.digits.specs.Hex.{hexChar, hexDigits, hexWords}
 use Rattle.writing.specs.Writer.{rowsFrom, agentsFrom, framesIn, frameLine, lineOf, linesOf, textOf}
 use Rattle.writing.specs.Calls.{bytesInto, writeInto}
+use Rattle.writing.specs.Laws.{rowsOf, textLength}
 
 -- 01's example: SEND 0, 7 in the window 1 to 3 with 5 in register 0; RECV 1, 7 in the window 4 to 8
 table : List ℕ
@@ -63,3 +64,13 @@ cases : T (every (
     ∷ []))
 unfolding leaves line text table shortest every
 cases = tt
+
+-- n rows that set register 0 to 0, in the window 0 to 1
+rowsOfSet : ℕ → List ℕ
+rowsOfSet zero = []
+rowsOfSet (suc n) = 0 ∷ 0 ∷ 0 ∷ 1 ∷ rowsOfSet n
+
+-- 16 agents of 32 rows have the longest text
+longest : T (let tb = (16 ∷ replicate 16 32) ++ (replicate 64 0 ++ rowsOfSet 512) in eqb (checkReply tb) 0 && eqb (textLength tb) 19539)
+unfolding first every checkReply goodTable goodAgent goodRows rowReplyAt earlyBefore lateBefore rowReply wellFormed fieldsFit namesOf within rowOf zeroFrom allZero allBelow rowsOf textLength rowsOfSet
+longest = tt
