@@ -27,7 +27,7 @@ use Rattle.reading.proofs.ReadSmall.{words-small}
 use Rattle.reading.proofs.Laws.{read-is-checked}
 use Rattle.writing.specs.Writer.{fourAt, linesOf, rowsFrom, agentsFrom, framesIn, textOf}
 use Rattle.writing.specs.Calls.{WriteOutcome, wrote, writeOutcome, writeInto}
-use Rattle.writing.specs.Laws.{bytesWritten, WrittenIsRead, ReadIsWritten, Accepted, ReadFrom, AcceptedAreRead, LengthOfTable, LengthBounds}
+use Rattle.writing.specs.Laws.{bytesWritten, WrittenIsRead, ReadIsWritten, Accepted, ReadFrom, AcceptedAreRead, LengthOfTable, RoomIsEnough, LengthBounds}
 use Rattle.writing.proofs.Lengths.{text-length, length-within}
 use Rattle.writing.proofs.Outcomes.{checked-words, too-long, all-written, accepted-write}
 use Rattle.writing.proofs.FrameLines.{AllPlain, frames-back, text-back}
@@ -145,6 +145,9 @@ length-of-table tb text ok = go (ltb (length text) (length (textOf (take tableWo
     go : (b : Bool) → ltb (length text) (length (textOf (take tableWords tb))) ≡ b → writeInto tb text .wrote .length ≡ length (textOf (take tableWords tb))
     go true e = ap (λ (o : WriteOutcome). o .wrote .length) (too-long tb text ok (ltb-true _ _ e))
     go false e = ap (λ (o : WriteOutcome). o .wrote .length) (all-written tb text ok (ltb-false _ _ e))
+
+pub room-is-enough : RoomIsEnough
+room-is-enough tb text ok room = let e = text-length (take tableWords tb) in ap (λ (o : WriteOutcome). o .wrote .reply) (all-written tb text ok (omega arith))
 
 pub length-bounds : LengthBounds
 length-bounds tb ok = length-within (take tableWords tb) (checked-good tb ok .1)

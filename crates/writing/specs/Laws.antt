@@ -51,6 +51,10 @@ textLength tb = 37 * (agents tb + rowsOf tb (agents tb)) + 3
 abbrev pub LengthOfTable : Type 0
 LengthOfTable = (tb text : List ℕ) → checkReply tb ≡ 0 → writeInto tb text .wrote .length ≡ textLength (take tableWords tb)
 
--- .. and lies between that of one agent of one row and that of 16 agents of 32
+-- A buffer of just that length is enough.
+abbrev pub RoomIsEnough : Type 0
+RoomIsEnough = (tb text : List ℕ) → checkReply tb ≡ 0 → textLength (take tableWords tb) ≤ length text → writeInto tb text .wrote .reply ≡ 0
+
+-- The length lies between that of one agent of one row and that of 16 agents of 32
 abbrev pub LengthBounds : Type 0
 LengthBounds = (tb : List ℕ) → checkReply tb ≡ 0 → (77 ≤ textLength (take tableWords tb)) × (textLength (take tableWords tb) ≤ 19539)
