@@ -10,7 +10,7 @@ use Rattle.tables.specs.Lines.{newline, lines, allHex, field, digitsLine}
 use Rattle.tables.proofs.Tests.{and-right}
 use Rattle.digits.specs.Hex.{hexDigits, hexWords}
 use Rattle.digits.proofs.Writes.{hexDigits-length, hexWords-length, four-of}
-use Rattle.digits.proofs.Back.{hex-append, digits-hex, words-hex, digits-field, digits-past, made-line, line-first}
+use Rattle.digits.proofs.Back.{hex-append, digits-hex, words-hex, digits-field, digits-past, fourDigits, four-flat, four-fields, made-line, line-first}
 use Rattle.traces.specs.Output.{stepLine, lastLine}
 use Rattle.traces.proofs.Steps.{stepLine-length, lastLine-length}
 use Rattle.demands.specs.Steps.{Step, step}
@@ -60,11 +60,8 @@ module _ (a t p : ℕ) (ws : List ℕ) where
 
 -- its fields, where it is flat
 module _ (a t p w x y z : ℕ) where
-  abbrev last-three : List ℕ
-  last-three = hexDigits 8 x ++ (hexDigits 8 y ++ (hexDigits 8 z ++ (newline ∷ [])))
-
   abbrev registers : List ℕ
-  registers = hexDigits 8 w ++ last-three
+  registers = fourDigits w x y z (newline ∷ [])
 
   abbrev from-time : List ℕ
   from-time = hexDigits 8 t ++ registers
@@ -79,8 +76,8 @@ module _ (a t p w x y z : ℕ) where
   flat = hexDigits 2 0x03 ++ from-agent
 
   flat-is : line a t p (w ∷ x ∷ y ∷ z ∷ []) ≡ flat
-  unfolding stepLine hexWords
-  flat-is = simp append-assoc
+  unfolding stepLine
+  flat-is = ap (λ (l : List ℕ). hexDigits 2 0x03 ++ (hexDigits 2 a ++ (hexDigits 2 p ++ (hexDigits 8 t ++ l)))) (four-flat w x y z (newline ∷ []))
 
   agent-at : a < 16 ^ 2 → field flat 2 2 ≡ a
   agent-at h = digits-past 2 0x03 from-agent 0 2 ∙ digits-field 2 a from-position h
@@ -101,22 +98,16 @@ module _ (a t p w x y z : ℕ) where
   time-at : t < 16 ^ 8 → field flat 6 8 ≡ t
   time-at h = past-agent 2 8 ∙ digits-past 2 p from-time 0 8 ∙ digits-field 8 t registers h
 
-  first-at : w < 16 ^ 8 → field flat 14 8 ≡ w
-  first-at h = past-time 0 8 ∙ digits-field 8 w last-three h
-
-  second-at : x < 16 ^ 8 → field flat 22 8 ≡ x
-  second-at h = past-time 8 8 ∙ digits-past 8 w last-three 0 8 ∙ digits-field 8 x _ h
-
-  third-at : y < 16 ^ 8 → field flat 30 8 ≡ y
-  third-at h = past-time 16 8 ∙ digits-past 8 w last-three 8 8 ∙ digits-past 8 x _ 0 8 ∙ digits-field 8 y _ h
-
-  fourth-at : z < 16 ^ 8 → field flat 38 8 ≡ z
-  fourth-at h = past-time 24 8 ∙ digits-past 8 w last-three 16 8 ∙ digits-past 8 x _ 8 8 ∙ digits-past 8 y _ 0 8 ∙ digits-field 8 z _ h
-
   flat-step : a < 16 ^ 2 → t < 16 ^ 8 → p < 16 ^ 2 → w < 16 ^ 8 → x < 16 ^ 8 → y < 16 ^ 8 → z < 16 ^ 8
       → stepIn flat ≡ step a t (record { pos = p; regs = w ∷ x ∷ y ∷ z ∷ [] })
   unfolding stepIn
-  flat-step ha ht hp hw hx hy hz = λ i. step (agent-at ha i) (time-at ht i) (record { pos = position-at hp i; regs = first-at hw i ∷ second-at hx i ∷ third-at hy i ∷ fourth-at hz i ∷ [] })
+  flat-step ha ht hp hw hx hy hz =
+      let e = four-fields w x y z (newline ∷ []) hw hx hy hz in
+      let e0 : field flat 14 8 ≡ w = past-time 0 8 ∙ e .0 in
+      let e1 : field flat 22 8 ≡ x = past-time 8 8 ∙ e .1 in
+      let e2 : field flat 30 8 ≡ y = past-time 16 8 ∙ e .2 in
+      let e3 : field flat 38 8 ≡ z = past-time 24 8 ∙ e .3 in
+      λ i. step (agent-at ha i) (time-at ht i) (record { pos = position-at hp i; regs = e0 i ∷ e1 i ∷ e2 i ∷ e3 i ∷ [] })
 
 -- the step in the line of a step
 line-shows : (s : Step) → Plain s → stepIn (stepLine (s .agent) (s .time) (s .left)) ≡ s

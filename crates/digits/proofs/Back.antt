@@ -2,7 +2,7 @@
 use mathlib.Core.Path.{_≡_, refl, sym, ap, _∙_}
 use mathlib.Core.Logic.{by-cases}
 use mathlib.Core.Bool.{true}
-use mathlib.Core.List.{List, [], _∷_, _++_}
+use mathlib.Core.List.{List, [], _∷_, _++_, append-assoc}
 use Prim.Native.Nat.{ℕ, zero, suc, _+_, _*_, _/_, _%_, _^_, _≤_, _<_}
 use native.Mathlib.Nat.{pow-succ'}
 use native.Mathlib.Decide.{decLt}
@@ -76,6 +76,24 @@ digits-field k v ys h = field-here (hexDigits k v) ys k (hexDigits-length k v) �
 
 pub digits-past : (n v : ℕ) (ys : List ℕ) (i k : ℕ) → field (hexDigits n v ++ ys) (n + i) k ≡ field ys i k
 digits-past n v ys i k = field-past (hexDigits n v) ys n i k (hexDigits-length n v)
+
+-- the digits of four words, and what follows them
+module _ (w x y z : ℕ) (r : List ℕ) where
+  abbrev pub fourDigits : List ℕ
+  fourDigits = hexDigits 8 w ++ (hexDigits 8 x ++ (hexDigits 8 y ++ (hexDigits 8 z ++ r)))
+
+  pub four-flat : hexWords (w ∷ x ∷ y ∷ z ∷ []) ++ r ≡ fourDigits
+  unfolding hexWords
+  four-flat = simp append-assoc
+
+  pub four-fields : w < 16 ^ 8 → x < 16 ^ 8 → y < 16 ^ 8 → z < 16 ^ 8
+      → (field fourDigits 0 8 ≡ w) × (field fourDigits 8 8 ≡ x) × (field fourDigits 16 8 ≡ y) × (field fourDigits 24 8 ≡ z)
+  four-fields hw hx hy hz = (
+    digits-field 8 w _ hw,
+    digits-past 8 w _ 0 8 ∙ digits-field 8 x _ hx,
+    digits-past 8 w _ 8 8 ∙ digits-past 8 x _ 0 8 ∙ digits-field 8 y _ hy,
+    digits-past 8 w _ 16 8 ∙ digits-past 8 x _ 8 8 ∙ digits-past 8 y _ 0 8 ∙ digits-field 8 z _ hz,
+  )
 
 -- ---- a line of digits
 

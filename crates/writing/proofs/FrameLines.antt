@@ -14,7 +14,7 @@ use Rattle.tables.proofs.Judging.{fault-some}
 use Rattle.tables.proofs.TableLine.{Tells, tells, kindFrame, line-frame, end-frame}
 use Rattle.digits.specs.Hex.{hexDigits, hexWords}
 use Rattle.digits.proofs.Writes.{hexDigits-length, hexWords-length, four-of}
-use Rattle.digits.proofs.Back.{hex-append, digits-hex, words-hex, digits-field, digits-past, made-line, line-first, field-written}
+use Rattle.digits.proofs.Back.{hex-append, digits-hex, words-hex, digits-field, digits-past, fourDigits, four-flat, four-fields, made-line, line-first, field-written}
 use Rattle.reading.specs.Reader.{inPlace}
 use Rattle.reading.proofs.Accepted.{Placed, open-on, give-on, last-line}
 use Rattle.writing.specs.Writer.{frameLine, lineOf, linesOf}
@@ -38,18 +38,15 @@ module _ (kind a : ℕ) (ws : List ℕ) (four : length ws ≡ 4) where
 
 -- its fields, where it is flat
 module _ (kind a w x y z : ℕ) where
-  abbrev last-three : List ℕ
-  last-three = hexDigits 8 x ++ (hexDigits 8 y ++ (hexDigits 8 z ++ (newline ∷ [])))
-
   abbrev four-words : List ℕ
-  four-words = hexDigits 8 w ++ last-three
+  four-words = fourDigits w x y z (newline ∷ [])
 
   abbrev flat : List ℕ
   flat = hexDigits 2 kind ++ (hexDigits 2 a ++ four-words)
 
   flat-is : frameLine kind a (w ∷ x ∷ y ∷ z ∷ []) ≡ flat
-  unfolding frameLine hexWords
-  flat-is = simp append-assoc
+  unfolding frameLine
+  flat-is = ap (λ (l : List ℕ). hexDigits 2 kind ++ (hexDigits 2 a ++ l)) (four-flat w x y z (newline ∷ []))
 
   past-agent : (i k : ℕ) → field flat (4 + i) k ≡ field four-words i k
   past-agent i k =
@@ -66,10 +63,11 @@ module _ (kind a w x y z : ℕ) where
     words-at : fourWords flat ≡ w ∷ x ∷ y ∷ z ∷ []
     unfolding fourWords
     words-at =
-        let e0 : field flat 4 8 ≡ w = past-agent 0 8 ∙ digits-field 8 w last-three hw in
-        let e1 : field flat 12 8 ≡ x = past-agent 8 8 ∙ digits-past 8 w last-three 0 8 ∙ digits-field 8 x _ hx in
-        let e2 : field flat 20 8 ≡ y = past-agent 16 8 ∙ digits-past 8 w last-three 8 8 ∙ digits-past 8 x _ 0 8 ∙ digits-field 8 y _ hy in
-        let e3 : field flat 28 8 ≡ z = past-agent 24 8 ∙ digits-past 8 w last-three 16 8 ∙ digits-past 8 x _ 8 8 ∙ digits-past 8 y _ 0 8 ∙ digits-field 8 z _ hz in
+        let e = four-fields w x y z (newline ∷ []) hw hx hy hz in
+        let e0 : field flat 4 8 ≡ w = past-agent 0 8 ∙ e .0 in
+        let e1 : field flat 12 8 ≡ x = past-agent 8 8 ∙ e .1 in
+        let e2 : field flat 20 8 ≡ y = past-agent 16 8 ∙ e .2 in
+        let e3 : field flat 28 8 ≡ z = past-agent 24 8 ∙ e .3 in
         λ i. e0 i ∷ e1 i ∷ e2 i ∷ e3 i ∷ []
 
     flat-frame : digitsLine 36 flat ≡ true → frameOf flat ≡ kindFrame kind a (w ∷ x ∷ y ∷ z ∷ [])
