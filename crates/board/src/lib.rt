@@ -54,7 +54,7 @@ pub extern "C" fn tannoplex_run(table: &[u32], state: &mut [u32], choices: &[u32
 
 #[no_mangle]
 pub extern "C" fn tannoplex_trace(input: &[u8], out: &mut [u8]) -> TraceReply
-    ensures { λ r. ⌜ Traces.Wrote (now (input .entry)) (now (out .entry)) (r .reply) (r .length) (now (out .exit)) ⌝ }
+    ensures { λ r. ⌜ Traces.WroteTrace (now (input .entry)) (now (out .entry)) (r .reply) (r .length) (now (out .exit)) ⌝ }
 {
     traces::trace(input, out)
 }

@@ -5,7 +5,7 @@ use mathlib.Core.List.{List, [], _∷_, _++_}
 use Prim.Native.Nat.{ℕ, zero, suc, _+_, _-_, _<_, _≤_}
 use native.Mathlib.Nat.{not-suc-le-zero, le-of-suc-le-suc, sub-zero, suc-sub-suc}
 use native.Mathlib.Omega.{arith}
-use lib.ListN.{length, set, take, drop, getD, replicate, length-set, length-take, length-drop}
+use lib.ListN.{length, set, take, drop, getD, length-set, length-take, length-drop}
 use lib.Seq.{sets, length-sets, getD-set-same, getD-set-other, getD-take, getD-drop, ext-getD}
 
 -- ---- several words stored from a place on
@@ -49,14 +49,9 @@ part-sets l vs n p e fit =
     ext-getD 0 (take n (drop p (sets l p vs))) vs (k ∙ sym e) (λ i h.
     let b : i < n = omega arith in getD-part (sets l p vs) n p i b ∙ getD-sets-same vs l p i (omega arith) (omega arith))
 
--- ---- the end of a list after a beginning, and a list of zeros
+-- ---- the end of a list after a beginning
 
 pub getD-right : (xs ys : List ℕ) (n : ℕ) → length xs ≤ n → getD (xs ++ ys) n 0 ≡ getD ys (n - length xs) 0
 getD-right [] ys n h = rw sub-zero
 getD-right (x ∷ xs) ys zero h = absurd (not-suc-le-zero h)
 getD-right (x ∷ xs) ys (suc n) h = rw suc-sub-suc (getD-right xs ys n (le-of-suc-le-suc h))
-
-pub getD-zeros : (n i : ℕ) → getD {A = ℕ} (replicate n 0) i 0 ≡ 0
-getD-zeros zero i = refl
-getD-zeros (suc n) zero = refl
-getD-zeros (suc n) (suc i) = getD-zeros n i

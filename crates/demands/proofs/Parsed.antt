@@ -2,15 +2,16 @@
 use mathlib.Core.Path.{_≡_, refl, sym, ap, _∙_}
 use mathlib.Core.Bool.{true, false}
 use mathlib.Core.List.{List, [], _∷_, _++_, append-assoc, append-nil}
-use Prim.Native.Nat.{ℕ, _+_, _^_, _<_}
+use Prim.Native.Nat.{ℕ, _+_, _*_, _^_, _<_}
 use native.Mathlib.Omega.{arith}
 use lib.Dec.{lit<}
 use lib.ListN.{length, getD, length-append}
+use Rattle.tables.specs.Small.{Small}
 use Rattle.tables.specs.Lines.{newline, lines, allHex, field, digitsLine}
 use Rattle.tables.proofs.Tests.{and-right}
 use Rattle.digits.specs.Hex.{hexDigits, hexWords}
 use Rattle.digits.proofs.Writes.{hexDigits-length, hexWords-length, four-of}
-use Rattle.digits.proofs.Back.{hex-append, digits-hex, words-hex, digits-field, digits-past, fourDigits, four-flat, four-fields, made-line, line-first}
+use Rattle.digits.proofs.Back.{hex-append, digits-hex, words-hex, digits-field, digits-past, word-field, made-line, line-first}
 use Rattle.traces.specs.Output.{stepLine, lastLine}
 use Rattle.traces.proofs.Steps.{stepLine-length, lastLine-length}
 use Rattle.demands.specs.Steps.{Step, step}
@@ -24,7 +25,7 @@ pub record Plain (s : Step) : Type 0 where
   pub time : s .time < 16 ^ 8
   pub position : s .left .pos < 16 ^ 2
   pub four : length (s .left .regs) ≡ 4
-  pub small : (i : ℕ) → getD (s .left .regs) i 0 < 16 ^ 8
+  pub small : Small (s .left .regs)
 
 module _ (a t p : ℕ) (ws : List ℕ) where
   abbrev body : List ℕ
@@ -58,10 +59,10 @@ module _ (a t p : ℕ) (ws : List ℕ) where
   unfolding isStepLine
   line-is-step four = rw (line-digits four, line-kind)
 
--- its fields, where it is flat
-module _ (a t p w x y z : ℕ) where
+-- its fields
+module _ (a t p : ℕ) (ws : List ℕ) where
   abbrev registers : List ℕ
-  registers = fourDigits w x y z (newline ∷ [])
+  registers = hexWords ws ++ (newline ∷ [])
 
   abbrev from-time : List ℕ
   from-time = hexDigits 8 t ++ registers
@@ -69,55 +70,43 @@ module _ (a t p w x y z : ℕ) where
   abbrev from-position : List ℕ
   from-position = hexDigits 2 p ++ from-time
 
-  abbrev from-agent : List ℕ
-  from-agent = hexDigits 2 a ++ from-position
-
-  abbrev flat : List ℕ
-  flat = hexDigits 2 0x03 ++ from-agent
-
-  flat-is : line a t p (w ∷ x ∷ y ∷ z ∷ []) ≡ flat
+  agent-at : a < 16 ^ 2 → field (line a t p ws) 2 2 ≡ a
   unfolding stepLine
-  flat-is = ap (λ (l : List ℕ). hexDigits 2 0x03 ++ (hexDigits 2 a ++ (hexDigits 2 p ++ (hexDigits 8 t ++ l)))) (four-flat w x y z (newline ∷ []))
+  agent-at h = digits-past 2 0x03 _ 0 2 ∙ digits-field 2 a from-position h
 
-  agent-at : a < 16 ^ 2 → field flat 2 2 ≡ a
-  agent-at h = digits-past 2 0x03 from-agent 0 2 ∙ digits-field 2 a from-position h
-
-  past-agent : (i k : ℕ) → field flat (4 + i) k ≡ field from-position i k
+  past-agent : (i k : ℕ) → field (line a t p ws) (4 + i) k ≡ field from-position i k
+  unfolding stepLine
   past-agent i k =
       let e : 4 + i ≡ 2 + (2 + i) = omega arith in
-      ap (λ (j : ℕ). field flat j k) e ∙ digits-past 2 0x03 from-agent (2 + i) k ∙ digits-past 2 a from-position i k
+      ap (λ (j : ℕ). field (hexDigits 2 0x03 ++ (hexDigits 2 a ++ from-position)) j k) e ∙ digits-past 2 0x03 _ (2 + i) k ∙ digits-past 2 a from-position i k
 
-  past-time : (i k : ℕ) → field flat (14 + i) k ≡ field registers i k
-  past-time i k =
-      let e : 14 + i ≡ 4 + (2 + (8 + i)) = omega arith in
-      ap (λ (j : ℕ). field flat j k) e ∙ past-agent (2 + (8 + i)) k ∙ digits-past 2 p from-time (8 + i) k ∙ digits-past 8 t registers i k
-
-  position-at : p < 16 ^ 2 → field flat 4 2 ≡ p
+  position-at : p < 16 ^ 2 → field (line a t p ws) 4 2 ≡ p
   position-at h = past-agent 0 2 ∙ digits-field 2 p from-time h
 
-  time-at : t < 16 ^ 8 → field flat 6 8 ≡ t
+  time-at : t < 16 ^ 8 → field (line a t p ws) 6 8 ≡ t
   time-at h = past-agent 2 8 ∙ digits-past 2 p from-time 0 8 ∙ digits-field 8 t registers h
 
-  flat-step : a < 16 ^ 2 → t < 16 ^ 8 → p < 16 ^ 2 → w < 16 ^ 8 → x < 16 ^ 8 → y < 16 ^ 8 → z < 16 ^ 8
-      → stepIn flat ≡ step a t (record { pos = p; regs = w ∷ x ∷ y ∷ z ∷ [] })
-  unfolding stepIn
-  flat-step ha ht hp hw hx hy hz =
-      let e = four-fields w x y z (newline ∷ []) hw hx hy hz in
-      let e0 : field flat 14 8 ≡ w = past-time 0 8 ∙ e .0 in
-      let e1 : field flat 22 8 ≡ x = past-time 8 8 ∙ e .1 in
-      let e2 : field flat 30 8 ≡ y = past-time 16 8 ∙ e .2 in
-      let e3 : field flat 38 8 ≡ z = past-time 24 8 ∙ e .3 in
-      λ i. step (agent-at ha i) (time-at ht i) (record { pos = position-at hp i; regs = e0 i ∷ e1 i ∷ e2 i ∷ e3 i ∷ [] })
+  register-at : length ws ≡ 4 → Small ws → (j i : ℕ) → i ≡ 14 + 8 * j → j < 4 → field (line a t p ws) i 8 ≡ getD ws j 0
+  register-at four small j i e h =
+      let q : i ≡ 4 + (2 + (8 + 8 * j)) = omega arith in
+      ap (λ (k : ℕ). field (line a t p ws) k 8) q
+      ∙ past-agent (2 + (8 + 8 * j)) 8 ∙ digits-past 2 p from-time (8 + 8 * j) 8 ∙ digits-past 8 t registers (8 * j) 8
+      ∙ word-field ws (newline ∷ []) small j (omega arith)
 
 -- the step in the line of a step
 line-shows : (s : Step) → Plain s → stepIn (stepLine (s .agent) (s .time) (s .left)) ≡ s
+unfolding stepIn
 line-shows s h =
-    let g = s .left .regs in
-    let four = four-of g (h .four) in
-    ap (λ (l : List ℕ). stepIn (stepLine (s .agent) (s .time) (record { pos = s .left .pos; regs = l }))) four
-    ∙ ap stepIn (flat-is (s .agent) (s .time) (s .left .pos) (getD g 0 0) (getD g 1 0) (getD g 2 0) (getD g 3 0))
-    ∙ flat-step (s .agent) (s .time) (s .left .pos) (getD g 0 0) (getD g 1 0) (getD g 2 0) (getD g 3 0) (h .agent) (h .time) (h .position) (h .small 0) (h .small 1) (h .small 2) (h .small 3)
-    ∙ ap (λ (l : List ℕ). step (s .agent) (s .time) (record { pos = s .left .pos; regs = l })) (sym four)
+    let at = register-at (s .agent) (s .time) (s .left .pos) (s .left .regs) (h .four) (h .small) in
+    let e0 = at 0 14 (omega arith) (omega arith) in
+    let e1 = at 1 22 (omega arith) (omega arith) in
+    let e2 = at 2 30 (omega arith) (omega arith) in
+    let e3 = at 3 38 (omega arith) (omega arith) in
+    let a = agent-at (s .agent) (s .time) (s .left .pos) (s .left .regs) (h .agent) in
+    let t = time-at (s .agent) (s .time) (s .left .pos) (s .left .regs) (h .time) in
+    let p = position-at (s .agent) (s .time) (s .left .pos) (s .left .regs) (h .position) in
+    (λ i. step (a i) (t i) (record { pos = p i; regs = e0 i ∷ e1 i ∷ e2 i ∷ e3 i ∷ [] }))
+    ∙ ap (λ (l : List ℕ). step (s .agent) (s .time) (record { pos = s .left .pos; regs = l })) (sym (four-of (s .left .regs) (h .four)))
 
 -- ---- the last line
 

@@ -1,4 +1,4 @@
--- Words of 32 bits stay words of 32 bits: of a table that was read, and of every state that its steps lead to. Assumes nothing.
+-- Words of 32 bits stay words of 32 bits: of every state that the steps of a table of such words lead to. Assumes nothing.
 use mathlib.Core.Bool.{Bool, true, false, cond}
 use mathlib.Core.List.{List}
 use Prim.Native.Nat.{ℕ, zero, suc, _+_, _/_, _%_, _^_, _≤_, _<_}

@@ -4,23 +4,20 @@ use mathlib.Core.Bool.{true, false}
 use mathlib.Core.List.{List, [], _∷_, _++_, map, append-assoc}
 use Prim.Native.Nat.{ℕ, _+_}
 use native.Mathlib.Omega.{arith}
-use lib.ListN.{length, replicate, length-append, length-replicate}
+use lib.ListN.{length, length-append}
 use lib.Seq.{take-append-seam}
-use Rattle.tables.specs.Basics.{first}
 use Rattle.tables.specs.Small.{Small}
-use Rattle.tables.specs.Layout.{tableWords}
 use Rattle.tables.specs.Lines.{same, endLine, lines, digitsLine}
 use Rattle.tables.specs.Frames.{Frame, opens, gives, ends, malformed, frameOf, framesOf}
-use Rattle.tables.proofs.Judging.{fault-some}
 use Rattle.tables.proofs.TableLine.{Tells, tells}
 use Rattle.tables.proofs.Small.{small-nil, small-cons, field-word}
 use Rattle.tables.proofs.Lines.{same-eq, same-self}
 use Rattle.tables.proofs.Newlines.{joined, joined-lines, line-length, lines-end}
-use Rattle.reading.specs.Reader.{inPlace, framesReply, tableOf}
+use Rattle.reading.specs.Reader.{framesReply, tableOf}
 use Rattle.reading.specs.declared.Told.{Told}
-use Rattle.reading.proofs.Accepted.{Placed, placed-first, open-on, give-on, last-line}
+use Rattle.reading.proofs.Accepted.{Placed, placed-first, open-on, give-on, last-line, none-placed, fault-placed}
 use Rattle.reading.proofs.ReadGood.{table-length, read-good}
-use Rattle.reading.proofs.Outcomes.{accepted-placed, read-told, read-table}
+use Rattle.reading.proofs.Outcomes.{accepted-placed, blank, blank-length, read-told, read-table}
 use Rattle.traces.specs.Input.{tableBytes, tableText, badChoice, choicesIn}
 use Rattle.traces.proofs.Choices.{sound-choice, bad-none-head}
 use Rattle.demands.specs.Demand2.{Table}
@@ -30,12 +27,6 @@ use Rattle.digits.proofs.Back.{line-first}
 -- ---- what it reads to
 
 module _ (text : List ℕ) (ok : AcceptedText text) where
-  abbrev blank : List ℕ
-  blank = replicate tableWords 0
-
-  blank-length : length blank ≡ tableWords
-  blank-length = length-replicate {A = ℕ} tableWords 0
-
   pub frames-accepted : framesReply (framesOf text) .reply ≡ 0
   frames-accepted = ap (λ (q : Told). q .reply) (sym (read-told text blank (omega (arith, blank-length)))) ∙ ok
 
@@ -64,8 +55,8 @@ record Closes (ls : List (List ℕ)) : Type 0 where
   splits : (r : List ℕ) → lines (joined ls ++ r) ≡ ls ++ lines r
 
 closes : (ls : List (List ℕ)) (n a i : ℕ) → Placed n a i (map frameOf ls) → Closes ls
-unfolding first inPlace tableBytes joined
-closes [] n a i q = absurd (let z = q .placed in omega arith)
+unfolding tableBytes joined
+closes [] n a i q = absurd (none-placed n a i q)
 closes (l ∷ ls) n a i q = go (frameOf l) (tells l) q (λ n a i. closes ls n a i)
   where
     longer : same l endLine ≡ false → digitsLine 36 l ≡ true → Closes ls → Closes (l ∷ ls)
@@ -84,7 +75,7 @@ closes (l ∷ ls) n a i q = go (frameOf l) (tells l) q (λ n a i. closes ls n a 
     go (opens b ws) t q rest = longer (t .0) (t .1) (rest (n + 1) (a + 1) 0 (open-on n a i b ws (map frameOf ls) q))
     go (gives b ws) t q rest = longer (t .0) (t .1) (rest (n + 1) a (i + 1) (give-on n a i b ws (map frameOf ls) q))
     go ends t q rest = last (same-eq l endLine t) (last-line n a i ls q)
-    go (malformed w) t q rest = absurd (fault-some w (q .placed))
+    go (malformed w) t q rest = absurd (fault-placed n a i w (map frameOf ls) q)
 
 -- The table's text of an input that begins with it.
 pub table-text : (text more : List ℕ) → framesReply (framesOf text) .reply ≡ 0 → tableText (text ++ more) ≡ text

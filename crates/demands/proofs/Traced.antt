@@ -106,7 +106,7 @@ module _ (tb : List ℕ) (table : Table tb) (words : Small tb) where
           time = choices .word 1;
           position = omega (arith, position e);
           four = agent-four tb new a t (choice-is-models tb st table fit a t .state e .long) (low e);
-          small = λ i. small-take 4 (small-drop (regPlace a) (new-small e)) .word i;
+          small = small-take 4 (small-drop (regPlace a) (new-small e));
         },
         rest e,
       )

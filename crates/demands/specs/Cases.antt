@@ -7,6 +7,7 @@ use Rattle.tables.specs.Basics.{first, every, allBelow, allZero, zeroFrom}
 use Rattle.tables.specs.Layout.{rowOf}
 use Rattle.tables.specs.Lines.{newline, lines, same, hexDigit, allHex, number, field, digitsLine}
 use Rattle.tables.specs.Rows.{rowReply, wellFormed, fieldsFit, namesOf, within}
+use Rattle.tables.specs.Cases.{exampleTable}
 use Rattle.tables.specs.Table.{goodTable, goodAgent, goodRows, rowReplyAt, earlyBefore, lateBefore}
 use Rattle.choices.specs.declared.Agent.{Agent}
 use Rattle.choices.specs.State.{startWords}
@@ -19,13 +20,6 @@ use Rattle.digits.specs.Hex.{hexChar, hexDigits}
 use Rattle.demands.specs.Steps.{step, stepsFrom, comesTo, passedInRun}
 use Rattle.demands.specs.Traces.{isStepLine, stepIn, stepsShown}
 
--- SEND 0, 7 in the window 1 to 3 with 5 in register 0; RECV 1, 7 in the window 4 to 8
-table : List ℕ
-table =
-    (2 ∷ 1 ∷ 1 ∷ replicate 14 0) ++ (5 ∷ replicate 63 0)
-    ++ (0x20000000 ∷ 7 ∷ 1 ∷ 3 ∷ replicate 124 0)
-    ++ (0x30010000 ∷ 7 ∷ 4 ∷ 8 ∷ replicate 1916 0)
-
 abbrev at : (p : ℕ) → List ℕ → Agent
 at p r = record { pos = p; regs = r }
 
@@ -34,7 +28,7 @@ sender p = at p (5 ∷ 0 ∷ 0 ∷ 0 ∷ [])
 
 -- what an agent passes through in a run of the table, made in lent words that are all 9
 through : List ℕ → ℕ → List Agent
-through cs b = passedInRun table (replicate 1106 9) cs b
+through cs b = passedInRun exampleTable (replicate 1106 9) cs b
 
 record Example : Type 0 where
   sends : through (0 ∷ 3 ∷ 1 ∷ 4 ∷ []) 0 ≡ sender 0 ∷ sender 1 ∷ []
@@ -43,7 +37,7 @@ record Example : Type 0 where
   odd : through (0 ∷ 3 ∷ 1 ∷ []) 0 ≡ sender 0 ∷ []
 
 example : Example
-unfolding table through stepsFrom comesTo first every runRefusal startWords choiceReply stuck canGo inTime unfinished accepted withAgent withSent after receive best lookAgents lookRows look visible beats goodTable goodAgent goodRows rowReplyAt rowReply wellFormed fieldsFit namesOf within earlyBefore lateBefore rowOf zeroFrom allZero allBelow
+unfolding exampleTable through stepsFrom comesTo first every runRefusal startWords choiceReply stuck canGo inTime unfinished accepted withAgent withSent after receive best lookAgents lookRows look visible beats goodTable goodAgent goodRows rowReplyAt rowReply wellFormed fieldsFit namesOf within earlyBefore lateBefore rowOf zeroFrom allZero allBelow
 example = record { sends = refl; receives = refl; cut = refl; odd = refl }
 
 -- the output that 01 gives

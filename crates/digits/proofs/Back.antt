@@ -11,9 +11,11 @@ use lib.Dec.{ltb}
 use lib.ListN.{length, take, drop, getD, length-drop, take-append-drop}
 use lib.Seq.{take-at, drop-at, drop-drop, take-suc}
 use borrow.Author.Tests.{lt-ltb, le-ltb, le-leb, lt-leb}
+use Rattle.tables.specs.Small.{Small}
 use Rattle.tables.specs.Lines.{newline, same, lines, hexDigit, allHex, number, field, digitsLine}
 use Rattle.tables.proofs.Tests.{and-both}
 use Rattle.tables.proofs.Passed.{and-1, and-2}
+use Rattle.tables.proofs.Small.{small-tail}
 use Rattle.tables.proofs.Lines.{hex-char, hex-at, hex-part, number-suc}
 use Rattle.tables.proofs.Newlines.{lines-digits}
 use Rattle.digits.specs.Hex.{hexChar, hexDigits, hexWords}
@@ -21,13 +23,13 @@ use Rattle.digits.proofs.Writes.{hexDigits-length}
 
 -- ---- written and read
 
-pub hex-back : (d : ℕ) → d < 16 → hexDigit (hexChar d) ≡ d
+hex-back : (d : ℕ) → d < 16 → hexDigit (hexChar d) ≡ d
 unfolding hexDigit hexChar
 hex-back d h = by-cases (decLt d 10)
     (λ l. rw (lt-ltb d 10 l, le-leb 48 (48 + d) (omega arith), le-leb (48 + d) 57 (omega arith)) (omega arith))
     (λ n. rw (le-ltb d 10 (omega arith), le-leb 48 (55 + d) (omega arith), lt-leb (55 + d) 57 (omega arith), le-leb 65 (55 + d) (omega arith), le-leb (55 + d) 70 (omega arith)) (omega arith))
 
-pub number-append : (m : ℕ) (xs ys : List ℕ) → number m (xs ++ ys) ≡ number (number m xs) ys
+number-append : (m : ℕ) (xs ys : List ℕ) → number m (xs ++ ys) ≡ number (number m xs) ys
 unfolding number
 number-append m [] ys = refl
 number-append m (x ∷ xs) ys = number-append (16 * m + hexDigit x) xs ys
@@ -38,7 +40,7 @@ hex-append [] ys h k = k
 hex-append (x ∷ xs) ys h k =
     and-both (ltb (hexDigit x) 16) (allHex (xs ++ ys)) (and-1 (ltb (hexDigit x) 16) (allHex xs) h) (hex-append xs ys (and-2 (ltb (hexDigit x) 16) (allHex xs) h) k)
 
-pub digits-number : (k v : ℕ) → v < 16 ^ k → number 0 (hexDigits k v) ≡ v
+digits-number : (k v : ℕ) → v < 16 ^ k → number 0 (hexDigits k v) ≡ v
 unfolding number hexDigits
 digits-number zero v h = omega arith
 digits-number (suc k) v h =
@@ -77,23 +79,14 @@ digits-field k v ys h = field-here (hexDigits k v) ys k (hexDigits-length k v) �
 pub digits-past : (n v : ℕ) (ys : List ℕ) (i k : ℕ) → field (hexDigits n v ++ ys) (n + i) k ≡ field ys i k
 digits-past n v ys i k = field-past (hexDigits n v) ys n i k (hexDigits-length n v)
 
--- the digits of four words, and what follows them
-module _ (w x y z : ℕ) (r : List ℕ) where
-  abbrev pub fourDigits : List ℕ
-  fourDigits = hexDigits 8 w ++ (hexDigits 8 x ++ (hexDigits 8 y ++ (hexDigits 8 z ++ r)))
-
-  pub four-flat : hexWords (w ∷ x ∷ y ∷ z ∷ []) ++ r ≡ fourDigits
-  unfolding hexWords
-  four-flat = simp append-assoc
-
-  pub four-fields : w < 16 ^ 8 → x < 16 ^ 8 → y < 16 ^ 8 → z < 16 ^ 8
-      → (field fourDigits 0 8 ≡ w) × (field fourDigits 8 8 ≡ x) × (field fourDigits 16 8 ≡ y) × (field fourDigits 24 8 ≡ z)
-  four-fields hw hx hy hz = (
-    digits-field 8 w _ hw,
-    digits-past 8 w _ 0 8 ∙ digits-field 8 x _ hx,
-    digits-past 8 w _ 8 8 ∙ digits-past 8 x _ 0 8 ∙ digits-field 8 y _ hy,
-    digits-past 8 w _ 16 8 ∙ digits-past 8 x _ 8 8 ∙ digits-past 8 y _ 0 8 ∙ digits-field 8 z _ hz,
-  )
+-- word j of some words that are put one after the other
+pub word-field : (ws r : List ℕ) → Small ws → (j : ℕ) → j < length ws → field (hexWords ws ++ r) (8 * j) 8 ≡ getD ws j 0
+unfolding hexWords
+word-field [] r s j h = absurd (omega arith)
+word-field (w ∷ ws) r s zero h = ap (λ (l : List ℕ). field l 0 8) (append-assoc (hexDigits 8 w) (hexWords ws) r) ∙ digits-field 8 w _ (s .word 0)
+word-field (w ∷ ws) r s (suc j) h =
+    let e : 8 * suc j ≡ 8 + 8 * j = omega arith in
+    (λ i. field (append-assoc (hexDigits 8 w) (hexWords ws) r i) (e i) 8) ∙ digits-past 8 w (hexWords ws ++ r) (8 * j) 8 ∙ word-field ws r (small-tail s) j (omega arith)
 
 -- ---- a line of digits
 

@@ -12,28 +12,28 @@ use Rattle.digits.specs.Hex.{hexChar, hexDigits}
 use Rattle.digits.specs.Eight.{eightOf}
 
 -- what the code does, step by step
-abbrev pub halvesIn : ℕ → ℕ
-halvesIn w = w / 65536 + 4294967296 * (w % 65536)
+abbrev pub halvesApart : ℕ → ℕ
+halvesApart w = w / 65536 + 4294967296 * (w % 65536)
 
-abbrev pub bytesIn : ℕ → ℕ
-bytesIn x = bitAnd (x / 256) 0x000000FF000000FF + 65536 * bitAnd x 0x000000FF000000FF
+abbrev pub bytesApart : ℕ → ℕ
+bytesApart x = bitAnd (x / 256) 0x000000FF000000FF + 65536 * bitAnd x 0x000000FF000000FF
 
-abbrev pub digitsIn : ℕ → ℕ
-digitsIn x = bitAnd (x / 16) 0x000F000F000F000F + 256 * bitAnd x 0x000F000F000F000F
+abbrev pub digitsApart : ℕ → ℕ
+digitsApart x = bitAnd (x / 16) 0x000F000F000F000F + 256 * bitAnd x 0x000F000F000F000F
 
-abbrev pub lettersIn : ℕ → ℕ
-lettersIn x = bitAnd ((x + 0x0606060606060606) / 16) 0x0101010101010101
+abbrev pub lettersOf : ℕ → ℕ
+lettersOf x = bitAnd ((x + 0x0606060606060606) / 16) 0x0101010101010101
 
-abbrev pub charsIn : ℕ → ℕ
-charsIn x = x + 0x3030303030303030 + 7 * lettersIn x
+abbrev pub charsOf : ℕ → ℕ
+charsOf x = x + 0x3030303030303030 + 7 * lettersOf x
 
 -- ---- each step, on blocks: what comes first stands lowest
 
-halves : (p q : ℕ) → q < 65536 → halvesIn (p * 65536 + q) ≡ foursOf q p
+halves : (p q : ℕ) → q < 65536 → halvesApart (p * 65536 + q) ≡ foursOf q p
 halves p q l = omega arith
 
 module _ (a b c d : ℕ) (k : a < 256) (l : b < 256) (m : c < 256) (n : d < 256) where
-  bytes : bytesIn (foursOf (256 * c + d) (256 * a + b)) ≡ pairsOf d c b a
+  bytes : bytesApart (foursOf (256 * c + d) (256 * a + b)) ≡ pairsOf d c b a
   bytes =
       let x = foursOf (256 * c + d) (256 * a + b) in
       let shifted : x / 256 ≡ foursOf c (d * 16777216 + a) = omega arith in
@@ -59,7 +59,7 @@ char-below : (h : ℕ) → h < 16 → hexChar h < 256
 char-below h l = let e = char-of h l in omega arith
 
 module _ (h0 h1 h2 h3 h4 h5 h6 h7 : ℕ) (l0 : h0 < 16) (l1 : h1 < 16) (l2 : h2 < 16) (l3 : h3 < 16) (l4 : h4 < 16) (l5 : h5 < 16) (l6 : h6 < 16) (l7 : h7 < 16) where
-  digits : digitsIn (pairsOf (16 * h6 + h7) (16 * h4 + h5) (16 * h2 + h3) (16 * h0 + h1)) ≡ bytesOf h7 h6 h5 h4 h3 h2 h1 h0
+  digits : digitsApart (pairsOf (16 * h6 + h7) (16 * h4 + h5) (16 * h2 + h3) (16 * h0 + h1)) ≡ bytesOf h7 h6 h5 h4 h3 h2 h1 h0
   digits =
       let x = pairsOf (16 * h6 + h7) (16 * h4 + h5) (16 * h2 + h3) (16 * h0 + h1) in
       let shifted : x / 16 ≡ pairsOf h6 (h7 * 4096 + h4) (h5 * 4096 + h2) (h3 * 4096 + h0) = omega arith in
@@ -75,7 +75,7 @@ module _ (h0 h1 h2 h3 h4 h5 h6 h7 : ℕ) (l0 : h0 < 16) (l1 : h1 < 16) (l2 : h2 
       ∙ rw (and-mask (16 * h6 + h7) 4, and-mask (16 * h4 + h5) 4, and-mask (16 * h2 + h3) 4, and-mask (16 * h0 + h1) 4, second h6 h7 l7, second h4 h5 l5, second h2 h3 l3, second h0 h1 l1) in
       (λ i. high i + 256 * low i) ∙ omega arith
 
-  letters : lettersIn (bytesOf h0 h1 h2 h3 h4 h5 h6 h7)
+  letters : lettersOf (bytesOf h0 h1 h2 h3 h4 h5 h6 h7)
       ≡ bytesOf ((h0 + 6) / 16) ((h1 + 6) / 16) ((h2 + 6) / 16) ((h3 + 6) / 16) ((h4 + 6) / 16) ((h5 + 6) / 16) ((h6 + 6) / 16) ((h7 + 6) / 16)
   letters =
       let next : (g h : ℕ) → ℕ = λ g h. (g + 6) % 16 * 16 + (h + 6) / 16 in
@@ -89,7 +89,7 @@ module _ (h0 h1 h2 h3 h4 h5 h6 h7 : ℕ) (l0 : h0 < 16) (l1 : h1 < 16) (l2 : h2 
       ∙ rw (and-mask ((h0 + 6) / 16) 1, and-mask (next h0 h1) 1, and-mask (next h1 h2) 1, and-mask (next h2 h3) 1, and-mask (next h3 h4) 1, and-mask (next h4 h5) 1, and-mask (next h5 h6) 1, and-mask (next h6 h7) 1)
       (rw (head h0 l0, odd h0 h1 l1, odd h1 h2 l2, odd h2 h3 l3, odd h3 h4 l4, odd h4 h5 l5, odd h5 h6 l6, odd h6 h7 l7))
 
-  chars : charsIn (bytesOf h0 h1 h2 h3 h4 h5 h6 h7) ≡ bytesOf (hexChar h0) (hexChar h1) (hexChar h2) (hexChar h3) (hexChar h4) (hexChar h5) (hexChar h6) (hexChar h7)
+  chars : charsOf (bytesOf h0 h1 h2 h3 h4 h5 h6 h7) ≡ bytesOf (hexChar h0) (hexChar h1) (hexChar h2) (hexChar h3) (hexChar h4) (hexChar h5) (hexChar h6) (hexChar h7)
   chars =
       ap (λ (x : ℕ). bytesOf h0 h1 h2 h3 h4 h5 h6 h7 + 0x3030303030303030 + 7 * x) letters
       ∙ added ((h0 + 6) / 16) ((h1 + 6) / 16) ((h2 + 6) / 16) ((h3 + 6) / 16) ((h4 + 6) / 16) ((h5 + 6) / 16) ((h6 + 6) / 16) ((h7 + 6) / 16)
@@ -120,21 +120,21 @@ module _ (c0 c1 c2 c3 c4 c5 c6 c7 : ℕ) (l0 : c0 < 256) (l1 : c1 < 256) (l2 : c
 -- ---- a word
 
 module _ (h0 h1 h2 h3 h4 h5 h6 h7 : ℕ) (l0 : h0 < 16) (l1 : h1 < 16) (l2 : h2 < 16) (l3 : h3 < 16) (l4 : h4 < 16) (l5 : h5 < 16) (l6 : h6 < 16) (l7 : h7 < 16) where
-  eight-chars : charsIn (digitsIn (bytesIn (halvesIn ((256 * (16 * h0 + h1) + (16 * h2 + h3)) * 65536 + (256 * (16 * h4 + h5) + (16 * h6 + h7))))))
+  eight-chars : charsOf (digitsApart (bytesApart (halvesApart ((256 * (16 * h0 + h1) + (16 * h2 + h3)) * 65536 + (256 * (16 * h4 + h5) + (16 * h6 + h7))))))
       ≡ bytesOf (hexChar h7) (hexChar h6) (hexChar h5) (hexChar h4) (hexChar h3) (hexChar h2) (hexChar h1) (hexChar h0)
   eight-chars =
-      ap (λ (x : ℕ). charsIn (digitsIn (bytesIn x))) (halves (256 * (16 * h0 + h1) + (16 * h2 + h3)) (256 * (16 * h4 + h5) + (16 * h6 + h7)) (omega arith))
-      ∙ ap (λ (x : ℕ). charsIn (digitsIn x)) (bytes (16 * h0 + h1) (16 * h2 + h3) (16 * h4 + h5) (16 * h6 + h7) (omega arith) (omega arith) (omega arith) (omega arith))
-      ∙ ap charsIn (digits h0 h1 h2 h3 h4 h5 h6 h7 l0 l1 l2 l3 l4 l5 l6 l7)
+      ap (λ (x : ℕ). charsOf (digitsApart (bytesApart x))) (halves (256 * (16 * h0 + h1) + (16 * h2 + h3)) (256 * (16 * h4 + h5) + (16 * h6 + h7)) (omega arith))
+      ∙ ap (λ (x : ℕ). charsOf (digitsApart x)) (bytes (16 * h0 + h1) (16 * h2 + h3) (16 * h4 + h5) (16 * h6 + h7) (omega arith) (omega arith) (omega arith) (omega arith))
+      ∙ ap charsOf (digits h0 h1 h2 h3 h4 h5 h6 h7 l0 l1 l2 l3 l4 l5 l6 l7)
       ∙ chars h7 h6 h5 h4 h3 h2 h1 h0 l7 l6 l5 l4 l3 l2 l1 l0
 
-  eight-digits : eightOf (charsIn (digitsIn (bytesIn (halvesIn ((256 * (16 * h0 + h1) + (16 * h2 + h3)) * 65536 + (256 * (16 * h4 + h5) + (16 * h6 + h7)))))))
+  eight-digits : eightOf (charsOf (digitsApart (bytesApart (halvesApart ((256 * (16 * h0 + h1) + (16 * h2 + h3)) * 65536 + (256 * (16 * h4 + h5) + (16 * h6 + h7)))))))
       ≡ hexChar h0 ∷ hexChar h1 ∷ hexChar h2 ∷ hexChar h3 ∷ hexChar h4 ∷ hexChar h5 ∷ hexChar h6 ∷ hexChar h7 ∷ []
   eight-digits =
       ap eightOf eight-chars
       ∙ apart (hexChar h7) (hexChar h6) (hexChar h5) (hexChar h4) (hexChar h3) (hexChar h2) (hexChar h1) (hexChar h0) (char-below h7 l7) (char-below h6 l6) (char-below h5 l5) (char-below h4 l4) (char-below h3 l3) (char-below h2 l2) (char-below h1 l1) (char-below h0 l0)
 
-pub word-digits : (w : ℕ) → w < 2 ^ 32 → eightOf (charsIn (digitsIn (bytesIn (halvesIn w)))) ≡ hexDigits 8 w
+pub word-digits : (w : ℕ) → w < 2 ^ 32 → eightOf (charsOf (digitsApart (bytesApart (halvesApart w)))) ≡ hexDigits 8 w
 unfolding hexDigits
 word-digits w l =
     let h7 = w % 16 in
@@ -146,5 +146,5 @@ word-digits w l =
     let h1 = w / 16 / 16 / 16 / 16 / 16 / 16 % 16 in
     let h0 = w / 16 / 16 / 16 / 16 / 16 / 16 / 16 % 16 in
     let e : w ≡ (256 * (16 * h0 + h1) + (16 * h2 + h3)) * 65536 + (256 * (16 * h4 + h5) + (16 * h6 + h7)) = omega arith in
-    ap (λ (x : ℕ). eightOf (charsIn (digitsIn (bytesIn (halvesIn x))))) e
+    ap (λ (x : ℕ). eightOf (charsOf (digitsApart (bytesApart (halvesApart x))))) e
     ∙ eight-digits h0 h1 h2 h3 h4 h5 h6 h7 (omega arith) (omega arith) (omega arith) (omega arith) (omega arith) (omega arith) (omega arith) (omega arith)

@@ -1,4 +1,4 @@
--- Laws that the proofs of several functions cite.
+-- Laws of the digits: stores, eight at once, there and back.
 pub mod Writes
 pub mod Eight
 pub mod Back

@@ -1,4 +1,4 @@
--- Bytes written one after the other: two runs of stores are one; digits are as many as asked. Assumes nothing.
+-- Bytes written one after the other: two runs of stores are one; digits are as many as asked; four words, one by one. Assumes nothing.
 use mathlib.Core.Path.{_≡_, refl, sym, ap, _∙_}
 use mathlib.Core.List.{List, [], _∷_, _++_}
 use Prim.Native.Nat.{ℕ, zero, suc, _+_, _*_, _/_, _%_, _≤_}

@@ -7,6 +7,17 @@ ghost use lib.Seq.{sets};
 ghost use Rattle.digits.specs.Hex.{hexChar, hexDigits, hexWords};
 ghost use Rattle.digits.specs.Eight.{eightOf};
 
+// The digits of a byte and of a word, and where the second, third and fourth of four words begin.
+pub const BYTE_DIGITS: usize = 2;
+
+const WORD_DIGITS: usize = 8;
+
+const SECOND_WORD: usize = WORD_DIGITS;
+
+const THIRD_WORD: usize = SECOND_WORD + WORD_DIGITS;
+
+const FOURTH_WORD: usize = THIRD_WORD + WORD_DIGITS;
+
 // The upper-case hexadecimal digit of a number below 16.
 fn hex_char(d: u32) -> u8
     requires { ⌜ d < 16 ⌝ }
@@ -47,8 +58,8 @@ fn put_eight(out: &mut [u8], at: usize, x: u64)
     out[at + 7] = (x / 72057594037927936 % 256) as u8;
 }
 
-// The eight digits of a word, all at once: its halves are moved apart, then their bytes, then the digits, each to a byte of its own, the first to the lowest,
-// and each byte becomes a character.
+// The eight digits of a word, all at once: its halves are moved apart, then their bytes, then the digits, each to a byte of its own, the first to the lowest.
+// Each byte becomes a character: a digit of 10 or more reaches 16 by 6, which tells the letters, and 7 characters lie between 9 and A.
 pub fn put_word(out: &mut [u8], at: usize, w: u32)
     requires { ⌜ at + 8 ≤ length (now out) ⌝ }
     ensures { λ _. ⌜ now (out .exit) ≡ sets (now (out .entry)) at (hexDigits 8 w) ⌝ }
@@ -67,7 +78,7 @@ pub fn put_four(out: &mut [u8], at: usize, w: u32, x: u32, y: u32, z: u32)
     ensures { λ _. ⌜ now (out .exit) ≡ sets (now (out .entry)) at (hexWords (w ∷ x ∷ y ∷ z ∷ [])) ⌝ }
 {
     put_word(out, at, w);
-    put_word(out, at + 8, x);
-    put_word(out, at + 16, y);
-    put_word(out, at + 24, z);
+    put_word(out, at + SECOND_WORD, x);
+    put_word(out, at + THIRD_WORD, y);
+    put_word(out, at + FOURTH_WORD, z);
 }

@@ -6,7 +6,8 @@ use native.Mathlib.Nat.{not-suc-le-zero}
 use native.Mathlib.Omega.{arith}
 use lib.ListN.{length, set, take, drop, getD, replicate, length-append, length-take, length-drop, List·getD-append}
 use Rattle.choices.specs.State.{startWords}
-use Rattle.choices.proofs.Lists.{getD-right, getD-zeros, getD-part}
+use Rattle.tables.proofs.Zeros.{getD-zeros}
+use Rattle.choices.proofs.Lists.{getD-right, getD-part}
 
 abbrev one : List ℕ
 one = 1 ∷ replicate 16 0

@@ -12,6 +12,8 @@ use Rattle.tables.specs.Heads.{lineAt, wordsAt}
 use Rattle.reading.specs.Reader.{endRules, inPlace, rowsNext}
 use Rattle.reading.specs.declared.Told.{Told}
 use Rattle.tables.specs.declared.frames.Line.the-variants.{Opens, Gives}
+use Rattle.tables.specs.declared.faults.Fault.{Fault}
+use Rattle.tables.proofs.Judging.{fault-some}
 use Rattle.tables.proofs.Heads.{Framed, framed}
 use Rattle.reading.proofs.Places.{mayOpen, mayGive, open-number, open-room, open-after-rows, give-open, give-room, place-open, place-open-not, place-give, place-give-not, place-end, place-end-not, end-rows}
 
@@ -82,6 +84,15 @@ module _ (n a i b : ℕ) (ws : List ℕ) (fs : List Frame) where
         line = omega arith;
         placed = ap (λ (t : Told). t .reply) (sym (place-give n a i b ws fs (give-may q))) ∙ q .placed;
       }
+
+-- a text does not stop before its end line, and no line of it has a fault
+pub none-placed : (n a i : ℕ) → Placed n a i [] → ⊥
+unfolding inPlace first
+none-placed n a i q = let z = q .placed in omega arith
+
+pub fault-placed : (n a i : ℕ) (w : Fault) (fs : List Frame) → Placed n a i (malformed w ∷ fs) → ⊥
+unfolding inPlace
+fault-placed n a i w fs q = fault-some w (q .placed)
 
 -- the last agent has rows
 pub ends-rows : (n a i : ℕ) (fs : List Frame) → Placed n a i (ends ∷ fs) → 0 < i

@@ -81,58 +81,34 @@ pub record Open (tb : List ℕ) (b i c e l : ℕ) : Type 0 where
 
 -- an agent is opened
 module _ (tb : List ℕ) (b : ℕ) (ws : List ℕ) (t : Closed tb b) (room : b < 16) (four : length ws ≡ 4) where
-  unfoldable pub after-open : List ℕ
-  after-open = withOpened tb b ws
-
-  open-below : (k : ℕ) → 1 ≤ k → k < 17 → getD after-open k 0 ≡ getD tb k 0
-  unfolding after-open
-  open-below k h l = opened-below tb b ws k h (omega arith)
-
-  open-above : (k : ℕ) → startPlace b + 4 ≤ k → getD after-open k 0 ≡ getD tb k 0
-  unfolding after-open
-  open-above k h = opened-above tb b ws k (omega arith)
-
-  pub opened : (c : ℕ) → Open after-open b 0 c 0 0
-  unfolding after-open earlyBefore lateBefore
+  pub opened : (c : ℕ) → Open (withOpened tb b ws) b 0 c 0 0
+  unfolding earlyBefore lateBefore
   opened c = record {
     now = now-opened tb b ws (t .words) room (t .counts-past);
     done =
         λ a h.
-        agent-same tb after-open a (open-below (countPlace a) (omega arith) (omega arith)) (λ k g l. open-above k (omega arith)) (t .done a h);
+        agent-same tb (withOpened tb b ws) a (opened-below tb b ws (countPlace a) (omega arith) (omega arith)) (λ k g l. opened-above tb b ws k (omega arith)) (t .done a h);
     pass = λ j h. absurd (omega arith);
     early = refl;
     late = refl;
-    registers-past = λ k h l. open-above k (omega arith) ∙ t .registers-past k (omega arith) l;
-    rows-past = λ k h l. open-above k (omega arith) ∙ t .rows-past k h l;
+    registers-past = λ k h l. opened-above tb b ws k (omega arith) ∙ t .registers-past k (omega arith) l;
+    rows-past = λ k h l. opened-above tb b ws k (omega arith) ∙ t .rows-past k h l;
   }
 
 -- a row is given
 module _ (tb : List ℕ) (b i c e l : ℕ) (ws : List ℕ) (t : Open tb b i c e l) (room : b < 16) (below : i < 32) (four : length ws ≡ 4) where
-  unfoldable pub after-give : List ℕ
-  after-give = withGiven tb b i ws
+  abbrev after : List ℕ
+  after = withGiven tb b i ws
 
   fits : rowPlace b i + length ws ≤ length (set tb (countPlace b) (i + 1))
   fits = let n = length-set tb (countPlace b) (i + 1) in omega (arith, t .now .words)
 
-  give-below : (k : ℕ) → (k ≡ countPlace b → ⊥) → k < rowPlace b i → getD after-give k 0 ≡ getD tb k 0
-  unfolding after-give
-  give-below = given-below tb b i ws
+  rows-kept : (a : ℕ) (k : ℕ) → rowPlace a 0 ≤ k → k < rowPlace b i → getD after k 0 ≡ getD tb k 0
+  rows-kept a k g h = given-below tb b i ws k (λ q. omega arith) h
 
-  give-above : (k : ℕ) → rowPlace b i + 4 ≤ k → getD after-give k 0 ≡ getD tb k 0
-  unfolding after-give
-  give-above k h = given-above tb b i ws room k (omega arith)
-
-  rows-kept : (a : ℕ) (k : ℕ) → rowPlace a 0 ≤ k → k < rowPlace b i → getD after-give k 0 ≡ getD tb k 0
-  rows-kept a k g h = give-below k (λ q. omega arith) h
-
-  now-after : Now after-give b (i + 1)
-  unfolding after-give
-  now-after = now-given tb b i ws (t .now) room
-
-  new-row : row after-give b i ≡ rowIn ws
-  unfolding after-give
+  new-row : row after b i ≡ rowIn ws
   new-row =
-      let at : (j k : ℕ) → k ≡ rowPlace b i + j → j < 4 → getD after-give k 0 ≡ getD ws j 0
+      let at : (j k : ℕ) → k ≡ rowPlace b i + j → j < 4 → getD after k 0 ≡ getD ws j 0
       = λ j k q h. sets-in (set tb (countPlace b) (i + 1)) (rowPlace b i) ws j k q (omega arith) fits in
       rw (
         at 0 (rowPlace b i) (omega arith) (omega arith),
@@ -141,23 +117,23 @@ module _ (tb : List ℕ) (b i c e l : ℕ) (ws : List ℕ) (t : Open tb b i c e 
         at 3 (rowPlace b i + 3) refl (omega arith),
       )
 
-  pub given : rowReply (rowIn ws) i c e l ≡ 0 → Open after-give b (i + 1) c (rowIn ws .early) (rowIn ws .late)
+  pub given : rowReply (rowIn ws) i c e l ≡ 0 → Open after b (i + 1) c (rowIn ws .early) (rowIn ws .late)
   unfolding earlyBefore lateBefore
   given passes = record {
-    now = now-after;
+    now = now-given tb b i ws (t .now) room;
     done =
         λ a h.
-        agent-same tb after-give a (give-below (countPlace a) (λ q. omega arith) (omega arith)) (λ k g m. rows-kept a k g (omega arith)) (t .done a h);
+        agent-same tb after a (given-below tb b i ws (countPlace a) (λ q. omega arith) (omega arith)) (λ k g m. rows-kept a k g (omega arith)) (t .done a h);
     pass =
         below-more
-        (λ (j : ℕ). replyIn after-give b c j ≡ 0)
+        (λ (j : ℕ). replyIn after b c j ≡ 0)
         i
-        (λ j h. reply-same tb after-give b i (rows-kept b) c j h ∙ t .pass j h)
-        (rw (new-row, early-same tb after-give b i (rows-kept b) i (omega arith), late-same tb after-give b i (rows-kept b) i (omega arith), t .early, t .late) passes);
-    early = rw (add-one i) (ap (λ (r : Row). r .early) new-row);
-    late = rw (add-one i) (ap (λ (r : Row). r .late) new-row);
-    registers-past = λ k h m. give-below k (λ q. omega arith) (omega arith) ∙ t .registers-past k h m;
-    rows-past = λ k h m. give-above k (omega arith) ∙ t .rows-past k (omega arith) m;
+        (λ j h. reply-same tb after b i (rows-kept b) c j h ∙ t .pass j h)
+        (rw (new-row, early-same tb after b i (rows-kept b) i (omega arith), late-same tb after b i (rows-kept b) i (omega arith), t .early, t .late) passes);
+    early = ap (earlyBefore after b) (add-one i) ∙ ap (λ (r : Row). r .early) new-row;
+    late = ap (lateBefore after b) (add-one i) ∙ ap (λ (r : Row). r .late) new-row;
+    registers-past = λ k h m. given-below tb b i ws k (λ q. omega arith) (omega arith) ∙ t .registers-past k h m;
+    rows-past = λ k h m. given-above tb b i ws room k (omega arith) ∙ t .rows-past k (omega arith) m;
   }
 
 -- an agent has all its rows

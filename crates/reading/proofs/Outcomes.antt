@@ -3,7 +3,7 @@ use mathlib.Core.Path.{_≡_, refl, sym, ap, _∙_}
 use mathlib.Core.Bool.{Bool, true, false}
 use mathlib.Core.List.{List, _++_, append-nil}
 use Prim.Native.Nat.{ℕ, zero, suc, _≤_, _<_}
-use lib.ListN.{length, drop, drop-of-length-le}
+use lib.ListN.{length, drop, replicate, length-replicate, drop-of-length-le}
 use lib.Dec.{ltb}
 use native.Mathlib.Omega.{arith}
 use borrow.Author.Tests.{lt-ltb, le-ltb, ltb-true, ltb-false}
@@ -99,6 +99,14 @@ module _ (text tb : List ℕ) (t : Told) (after : List ℕ) (r : Read text tb t 
           let q = r ∙ into text tb (ltb-false _ _ accepted-into) ∙ refused (framesOf text) tb (suc n) e (λ u. omega arith) in
           let y = ap (λ (o : ReadOutcome). o .told .reply) q in
           absurd (omega arith)
+
+-- ---- a blank table to read into
+
+abbrev pub blank : List ℕ
+blank = replicate tableWords 0
+
+pub blank-length : length blank ≡ tableWords
+blank-length = length-replicate {A = ℕ} tableWords 0
 
 -- ---- the reply of a read, whatever it is, and the table that it gives a buffer of just its words
 

@@ -16,7 +16,7 @@ use Rattle.tables.specs.declared.faults.Judged.{Judged}
 use Rattle.reading.specs.Reader.{told, noneLeft, pastEnd, openingRules, rowRules, endRules, toldBy, inPlace, rowsNext}
 use Rattle.tables.specs.declared.frames.Line.{Line}
 use Rattle.tables.specs.declared.frames.Line.the-variants.{Opens, Gives, Ends, Malformed}
-use Rattle.tables.proofs.Tests.{and-both, and-right}
+use Rattle.tables.proofs.Tests.{and-both, and-left, and-right, not-t}
 use Rattle.tables.proofs.Passed.{testAt, passed}
 use Rattle.tables.proofs.Heads.{framed, ended, no-frames, some-frames, first-frame, faulted-at}
 
@@ -103,6 +103,25 @@ module _ (b a i : ℕ) (h : mayGive b a i ≡ true) where
 
   pub give-room : i < 32
   give-room = leb-false 32 i (none-broken-row 2)
+
+-- the next agent may be opened, where the one before it has rows
+pub may-open : (a i : ℕ) → a < 16 → (0 < a → 0 < i) → mayOpen a a i ≡ true
+may-open a i h some =
+    sym
+    (rule-kept _ _ _ _ (not-t (eqb a a) (eq-eqb a a refl))
+    (rule-kept _ _ _ _ (lt-leb 16 a h)
+    (rule-kept _ _ _ _ (none (ltb 0 a) refl) no-rule)))
+  where
+    none : (b : Bool) → ltb 0 a ≡ b → (ltb 0 a && eqb i 0) ≡ false
+    none true e = let m = some (ltb-true 0 a e) in and-right (ltb 0 a) (eqb i 0) (ne-eqb i 0 (λ z. omega arith))
+    none false e = and-left (ltb 0 a) (eqb i 0) e
+
+pub may-give : (b i : ℕ) → i < 32 → mayGive b (b + 1) i ≡ true
+may-give b i h =
+    sym
+    (rule-kept _ _ _ _ (ne-eqb (b + 1) 0 (λ e. omega arith))
+    (rule-kept _ _ _ _ (not-t (eqb b (b + 1 - 1)) (eq-eqb b (b + 1 - 1) (omega arith)))
+    (rule-kept _ _ _ _ (lt-leb 32 i h) no-rule)))
 
 module _ (n a i b : ℕ) (ws : List ℕ) (fs : List Frame) where
   pub place-open : mayOpen b a i ≡ true → inPlace n a i (opens b ws ∷ fs) ≡ inPlace (n + 1) (a + 1) 0 fs

@@ -4,25 +4,25 @@ use mathlib.Core.Bool.{true}
 use mathlib.Core.List.{List, [], _∷_, _++_, map}
 use Prim.Native.Nat.{ℕ, zero, suc, _+_, _-_, _<_}
 use native.Mathlib.Omega.{arith}
-use lib.ListN.{length, getD, set, take, drop, replicate, length-set, length-append, length-replicate}
+use lib.ListN.{length, set, take, drop, replicate, length-set, length-append, length-replicate}
 use lib.Seq.{sets, length-sets, take-at}
 use Rattle.tables.specs.Layout.{agentsPlace, countPlace, rowPlace, startPlace, tableWords}
-use Rattle.tables.specs.Basics.{first}
 use Rattle.tables.specs.Rows.{rowReply}
 use Rattle.tables.specs.Table.{goodTable}
 use Rattle.tables.specs.Lines.{lines}
 use Rattle.tables.specs.Frames.{Frame, opens, gives, ends, malformed, fourWords, frameOf, framesOf}
-use Rattle.reading.specs.Reader.{inPlace, rowsNext, rowIn, rowsGood, framesReply, loaded, tableOf}
+use Rattle.reading.specs.Reader.{rowsNext, rowIn, rowsGood, framesReply, loaded, tableOf}
 use Rattle.tables.specs.Calls.{Checked}
-use Rattle.tables.proofs.Judging.{fault-some}
+use Rattle.tables.proofs.Zeros.{getD-zeros}
 use Rattle.tables.proofs.TableLine.{Tells, tells}
 use Rattle.reading.specs.Calls.{Read}
 use Rattle.reading.specs.declared.Told.{Told}
 use Rattle.tables.proofs.Good.{TableFacts, table-good, good-checked}
-use Rattle.reading.proofs.Accepted.{Placed, placed-first, open-agent, open-rows, open-on, give-agent, give-row, give-on, ends-rows}
+use Rattle.reading.proofs.Accepted.{Placed, placed-first, open-agent, open-rows, open-on, give-agent, give-row, give-on, ends-rows, none-placed, fault-placed}
 use Rattle.reading.proofs.Outcomes.{in-places, accepted-placed, accepted-read}
 use Rattle.reading.proofs.RowsRead.{good-row, bad-row}
-use Rattle.reading.proofs.Growing.{Closed, Open, after-open, opened, after-give, given, closed, all-facts}
+use Rattle.reading.proofs.Stores.{withOpened, withGiven}
+use Rattle.reading.proofs.Growing.{Closed, Open, opened, given, closed, all-facts}
 
 -- opening lines and rows have four words
 abbrev pub Four : Frame → Type 0
@@ -37,16 +37,16 @@ Fours (f ∷ fs) = Four f × Fours fs
 
 built : (fs tb : _) (n b i c e l : ℕ) → Fours fs → Open tb b i c e l → Placed n (b + 1) i fs → i + rowsNext fs ≡ c → rowsGood n c i e l fs .reply ≡ 0
     → TableFacts (loaded tb (b + 1) i fs)
-unfolding first rowsNext rowsGood loaded inPlace after-open after-give
-built [] tb n b i c e l f t q k z = absurd (let y = q .placed in omega arith)
-built (malformed w ∷ fs) tb n b i c e l f t q k z = absurd (fault-some w (q .placed))
+unfolding rowsNext rowsGood loaded
+built [] tb n b i c e l f t q k z = absurd (none-placed n (b + 1) i q)
+built (malformed w ∷ fs) tb n b i c e l f t q k z = absurd (fault-placed n (b + 1) i w fs q)
 built (ends ∷ fs) tb n b i c e l f t q k z =
     all-facts tb b i c e l t (omega (arith, q .agents)) (ends-rows n (b + 1) i fs q) (q .rows) (omega arith)
 built (opens b′ ws ∷ fs) tb n b i c e l f t q k z =
     let some = open-rows n (b + 1) i b′ ws fs q (omega arith) in
     let d = closed tb b i c e l t (omega (arith, q .agents)) some (q .rows) (omega arith) in
     let r = open-agent n (b + 1) i b′ ws fs q in
-    built fs (after-open tb (b + 1) ws d r (f .0)) (n + 1) (b + 1) 0 (rowsNext fs) 0 0 (f .1)
+    built fs (withOpened tb (b + 1) ws) (n + 1) (b + 1) 0 (rowsNext fs) 0 0 (f .1)
     (opened tb (b + 1) ws d r (f .0) (rowsNext fs)) (open-on n (b + 1) i b′ ws fs q) (omega arith) z
 built (gives b′ ws ∷ fs) tb n b i c e l f t q k z =
     let r : b < 16 = omega (arith, q .agents) in
@@ -54,8 +54,8 @@ built (gives b′ ws ∷ fs) tb n b i c e l f t q k z =
     let s : b ≡ b + 1 - 1 = omega arith in
     go (rowReply (rowIn ws) i c e l) refl
     (λ h.
-    subst (λ (a : ℕ). TableFacts (loaded (sets (set tb (countPlace a) (i + 1)) (rowPlace a i) ws) (b + 1) (i + 1) fs)) s
-    (built fs (after-give tb b i c e l ws t r m (f .0)) (n + 1) b (i + 1) c (rowIn ws .early) (rowIn ws .late) (f .1)
+    subst (λ (a : ℕ). TableFacts (loaded (withGiven tb a i ws) (b + 1) (i + 1) fs)) s
+    (built fs (withGiven tb b i ws) (n + 1) b (i + 1) c (rowIn ws .early) (rowIn ws .late) (f .1)
     (given tb b i c e l ws t r m (f .0) h) (give-on n (b + 1) i b′ ws fs q) (omega arith)
     (ap (λ (v : Told). v .reply) (sym (good-row n c i e l b′ ws fs h)) ∙ z)))
   where
@@ -67,28 +67,23 @@ built (gives b′ ws ∷ fs) tb n b i c e l f t q k z =
 
 -- the first line opens agent 0
 first-built : (tb : List ℕ) (fs : List Frame) → Closed tb 0 → Fours fs → Placed 1 0 0 fs → rowsGood 1 0 0 0 0 fs .reply ≡ 0 → TableFacts (loaded tb 0 0 fs)
-unfolding first inPlace rowsGood loaded after-open
-first-built tb [] t f q z = absurd (let y = q .placed in omega arith)
-first-built tb (malformed w ∷ fs) t f q z = absurd (fault-some w (q .placed))
-first-built tb (ends ∷ fs) t f q z = absurd (let y = q .placed in omega arith)
+unfolding rowsGood loaded
+first-built tb [] t f q z = absurd (none-placed 1 0 0 q)
+first-built tb (malformed w ∷ fs) t f q z = absurd (fault-placed 1 0 0 w fs q)
+first-built tb (ends ∷ fs) t f q z = absurd (let y = ends-rows 1 0 0 fs q in omega arith)
 first-built tb (gives b ws ∷ fs) t f q z = absurd (let y = give-agent 1 0 0 b ws fs q in omega arith)
 first-built tb (opens b ws ∷ fs) t f q z =
     let r = open-agent 1 0 0 b ws fs q in
-    built fs (after-open tb 0 ws t r (f .0)) 2 0 0 (rowsNext fs) 0 0 (f .1)
+    built fs (withOpened tb 0 ws) 2 0 0 (rowsNext fs) 0 0 (f .1)
     (opened tb 0 ws t r (f .0) (rowsNext fs)) (open-on 1 0 0 b ws fs q) (omega arith) z
-
-pub zeros : (n k : ℕ) → _≡_ {A = ℕ} (getD (replicate n 0) k 0) 0
-zeros zero k = refl
-zeros (suc n) zero = refl
-zeros (suc n) (suc k) = zeros n k
 
 no-agents : (n : ℕ) → n ≡ tableWords → Closed (replicate n 0) 0
 no-agents n e = record {
   words = length-replicate {A = ℕ} n 0 ∙ e;
   done = λ b h. absurd (omega arith);
-  counts-past = λ k h l. zeros n k;
-  registers-past = λ k h l. zeros n k;
-  rows-past = λ k h l. zeros n k;
+  counts-past = λ k h l. getD-zeros n k;
+  registers-past = λ k h l. getD-zeros n k;
+  rows-past = λ k h l. getD-zeros n k;
 }
 
 frame-four : (l : List ℕ) → Four (frameOf l)

@@ -30,7 +30,7 @@ first-turn text h =
 
 -- what one frame does
 module _ (n c i e l b : ℕ) (ws : List ℕ) (fs : List Frame) where
-  good-open : rowsGood n c i e l (opens b ws ∷ fs) ≡ rowsGood (n + 1) (rowsNext fs) 0 0 0 fs
+  pub good-open : rowsGood n c i e l (opens b ws ∷ fs) ≡ rowsGood (n + 1) (rowsNext fs) 0 0 0 fs
   unfolding rowsGood
   good-open = refl
 
@@ -42,6 +42,10 @@ module _ (n c i e l b : ℕ) (ws : List ℕ) (fs : List Frame) where
   unfolding rowsGood
   bad-row zero h k = absurd (k refl)
   bad-row (suc r) h k = rw (h, rowsGood)
+
+pub good-end : (n c i e l : ℕ) (fs : List Frame) → rowsGood n c i e l (ends ∷ fs) ≡ told 0 0
+unfolding rowsGood
+good-end n c i e l fs = refl
 
 module _ {text : List ℕ} {p n c i e l : ℕ} (t : Turn text p n c i e l) where
   pub few-lines : n ≤ 561

@@ -6,12 +6,13 @@ use native.Mathlib.Omega.{arith}
 use lib.ListN.{length, getD, set, length-set}
 use lib.Seq.{sets, length-sets, getD-set-same, getD-set-other}
 use Rattle.tables.specs.Layout.{agentsPlace, agents, countPlace, rows, startPlace, rowPlace, tableWords}
+use Rattle.tables.proofs.Good.{Zero}
 
-pub sets-below : (l : List ℕ) (p : ℕ) (vs : List ℕ) (k : ℕ) → k < p → getD (sets l p vs) k 0 ≡ getD l k 0
+sets-below : (l : List ℕ) (p : ℕ) (vs : List ℕ) (k : ℕ) → k < p → getD (sets l p vs) k 0 ≡ getD l k 0
 sets-below l p [] k h = refl
 sets-below l p (v ∷ vs) k h = sets-below (set l p v) (suc p) vs k (omega arith) ∙ getD-set-other l p k v 0 (λ e. omega arith)
 
-pub sets-above : (l : List ℕ) (p : ℕ) (vs : List ℕ) (k : ℕ) → p + length vs ≤ k → getD (sets l p vs) k 0 ≡ getD l k 0
+sets-above : (l : List ℕ) (p : ℕ) (vs : List ℕ) (k : ℕ) → p + length vs ≤ k → getD (sets l p vs) k 0 ≡ getD l k 0
 sets-above l p [] k h = refl
 sets-above l p (v ∷ vs) k h = sets-above (set l p v) (suc p) vs k (omega arith) ∙ getD-set-other l p k v 0 (λ e. omega arith)
 
@@ -30,7 +31,7 @@ abbrev pub withOpened : List ℕ → ℕ → List ℕ → List ℕ
 withOpened tb b ws = sets (set tb agentsPlace (b + 1)) (startPlace b) ws
 
 module _ (tb : List ℕ) (b : ℕ) (ws : List ℕ) where
-  pub opened-length : length (withOpened tb b ws) ≡ length tb
+  opened-length : length (withOpened tb b ws) ≡ length tb
   opened-length = length-sets (set tb agentsPlace (b + 1)) (startPlace b) ws ∙ length-set tb agentsPlace (b + 1)
 
   pub opened-below : (k : ℕ) → 1 ≤ k → k < startPlace b → getD (withOpened tb b ws) k 0 ≡ getD tb k 0
@@ -39,7 +40,7 @@ module _ (tb : List ℕ) (b : ℕ) (ws : List ℕ) where
   pub opened-above : (k : ℕ) → startPlace b + length ws ≤ k → getD (withOpened tb b ws) k 0 ≡ getD tb k 0
   opened-above k h = sets-above (set tb agentsPlace (b + 1)) (startPlace b) ws k h ∙ getD-set-other tb agentsPlace k (b + 1) 0 (λ e. omega arith)
 
-  pub opened-count : 0 < length tb → agents (withOpened tb b ws) ≡ b + 1
+  opened-count : 0 < length tb → agents (withOpened tb b ws) ≡ b + 1
   opened-count h = sets-below (set tb agentsPlace (b + 1)) (startPlace b) ws 0 (omega arith) ∙ getD-set-same tb agentsPlace (b + 1) 0 h
 
 -- ---- row i of agent b is given, with the words ws
@@ -48,7 +49,7 @@ abbrev pub withGiven : List ℕ → (b i : ℕ) → List ℕ → List ℕ
 withGiven tb b i ws = sets (set tb (countPlace b) (i + 1)) (rowPlace b i) ws
 
 module _ (tb : List ℕ) (b i : ℕ) (ws : List ℕ) where
-  pub given-length : length (withGiven tb b i ws) ≡ length tb
+  given-length : length (withGiven tb b i ws) ≡ length tb
   given-length = length-sets (set tb (countPlace b) (i + 1)) (rowPlace b i) ws ∙ length-set tb (countPlace b) (i + 1)
 
   pub given-below : (k : ℕ) → (k ≡ countPlace b → ⊥) → k < rowPlace b i → getD (withGiven tb b i ws) k 0 ≡ getD tb k 0
@@ -57,7 +58,7 @@ module _ (tb : List ℕ) (b i : ℕ) (ws : List ℕ) where
   pub given-above : b < 16 → (k : ℕ) → rowPlace b i + length ws ≤ k → getD (withGiven tb b i ws) k 0 ≡ getD tb k 0
   given-above r k h = sets-above (set tb (countPlace b) (i + 1)) (rowPlace b i) ws k h ∙ getD-set-other tb (countPlace b) k (i + 1) 0 (λ q. omega arith)
 
-  pub given-count : b < 16 → length tb ≡ tableWords → rows (withGiven tb b i ws) b ≡ i + 1
+  given-count : b < 16 → length tb ≡ tableWords → rows (withGiven tb b i ws) b ≡ i + 1
   given-count r l = sets-below (set tb (countPlace b) (i + 1)) (rowPlace b i) ws (countPlace b) (omega arith) ∙ getD-set-same tb (countPlace b) (i + 1) 0 (omega arith)
 
 -- ---- a table while frames are put into it: agent b is the last, with i rows so far, and the counts of those to come are 0
@@ -66,9 +67,9 @@ pub record Now (tb : List ℕ) (b i : ℕ) : Type 0 where
   pub words : length tb ≡ tableWords
   pub count : agents tb ≡ b + 1
   pub rows-now : rows tb b ≡ i
-  pub counts-past : (k : ℕ) → countPlace (b + 1) ≤ k → k < 17 → getD tb k 0 ≡ 0
+  pub counts-past : Zero tb (countPlace (b + 1)) 17
 
-pub now-opened : (tb : List ℕ) (b : ℕ) (ws : List ℕ) → length tb ≡ tableWords → b < 16 → ((k : ℕ) → countPlace b ≤ k → k < 17 → getD tb k 0 ≡ 0)
+pub now-opened : (tb : List ℕ) (b : ℕ) (ws : List ℕ) → length tb ≡ tableWords → b < 16 → Zero tb (countPlace b) 17
     → Now (withOpened tb b ws) b 0
 now-opened tb b ws words room past = record {
   words = opened-length tb b ws ∙ words;

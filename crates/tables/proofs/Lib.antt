@@ -2,6 +2,8 @@ pub mod Tests
 pub mod Passed
 pub mod RowReplies
 pub mod Zeros
+pub mod Stored
+pub mod WordPlaces
 pub mod Families
 pub mod Loops
 pub mod Good

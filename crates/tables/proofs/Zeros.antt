@@ -5,7 +5,7 @@ use mathlib.Core.List.{List, [], _∷_}
 use Prim.Native.Nat.{ℕ, zero, suc, _+_, _-_, _≤_, _<_}
 use native.Mathlib.Omega.{arith}
 use lib.Dec.{eqb}
-use lib.ListN.{take, drop, getD}
+use lib.ListN.{take, drop, getD, replicate}
 use lib.Seq.{getD-drop}
 use borrow.Author.Tests.{ne-eqb, eq-eqb, eqb-true}
 use Rattle.tables.proofs.Tests.{and-right, and-yes}
@@ -61,3 +61,10 @@ module _ (ws : List ℕ) (i j : ℕ) where
   zero-all h =
       zeros-below (drop i ws) (j - i)
       ∙ all-below (j - i) (isZero (drop i ws)) (λ k b. eq-eqb _ 0 (getD-drop i ws k 0 ∙ h (i + k) (omega arith) (omega arith)))
+
+-- ---- a list of zeros
+
+pub getD-zeros : (n i : ℕ) → getD {A = ℕ} (replicate n 0) i 0 ≡ 0
+getD-zeros zero i = refl
+getD-zeros (suc n) zero = refl
+getD-zeros (suc n) (suc i) = getD-zeros n i

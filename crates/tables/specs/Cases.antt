@@ -1,12 +1,20 @@
--- Single lines of a table and what T-01 asks of each, computed. Assumes nothing.
+-- Single lines of a table and what T-01 asks of each, computed; and the words of 01's example. Assumes nothing.
 use mathlib.Core.Bool.{Bool}
-use mathlib.Core.List.{List, [], _∷_}
+use mathlib.Core.List.{List, [], _∷_, _++_}
 use Prim.Native.Nat.{ℕ}
 use lib.Dec.{T, eqb}
+use lib.ListN.{replicate}
 use Rattle.tables.specs.Basics.{every}
 use Rattle.tables.specs.Lines.{newline, same, hexDigit, allHex, number, field, digitsLine}
 use Rattle.tables.specs.Faults.{faultReply, judgedReply, onlyDigits, beginsWith, judgeKind, judge}
 use Rattle.tables.specs.Frames.{knownInTables}
+
+-- 01's example: SEND 0, 7 in the window 1 to 3 with 5 in register 0; RECV 1, 7 in the window 4 to 8
+unfoldable pub exampleTable : List ℕ
+exampleTable =
+    (2 ∷ 1 ∷ 1 ∷ replicate 14 0) ++ (5 ∷ replicate 63 0)
+    ++ (0x20000000 ∷ 7 ∷ 1 ∷ 3 ∷ replicate 124 0)
+    ++ (0x30010000 ∷ 7 ∷ 4 ∷ 8 ∷ replicate 1916 0)
 
 -- the line is told with this reply
 asks : List ℕ → ℕ → Bool

@@ -32,9 +32,20 @@ const END_DIGITS: usize = 2;
 
 pub const END_BYTES: usize = END_DIGITS + 1;
 // The end line, as it is read and as it is written.
-pub const END_LINE: [u8; END_BYTES] = [b'F', b'F', b'\n'];
+pub const END_LINE: [u8; END_BYTES] = *b"FF\n";
+// The first bytes of the lines that open an agent and give a row.
+pub const OPENS: u32 = 0x00;
+
+pub const GIVES: u32 = 0x01;
 // The first bytes of a table's lines, each followed by the digits of its line.
-const KNOWN_IN_TABLES: [usize; 6] = [0x00, FRAME_DIGITS, 0x01, FRAME_DIGITS, 0xFF, END_DIGITS];
+const KNOWN_IN_TABLES: [usize; 6] = [
+    OPENS as usize,
+    FRAME_DIGITS,
+    GIVES as usize,
+    FRAME_DIGITS,
+    0xFF,
+    END_DIGITS,
+];
 
 // A line of a table's text: its kind, with the agent's number.
 pub enum Line {
@@ -114,10 +125,10 @@ pub fn line_at(text: &[u8], at: usize) -> Line
         return Line::Malformed;
     }
     let kind = field(text, at, 2);
-    if kind == 0 {
+    if kind == OPENS {
         return Line::Opens(field(text, at + AGENT_AT, 2));
     }
-    if kind == 1 {
+    if kind == GIVES {
         return Line::Gives(field(text, at + AGENT_AT, 2));
     }
     Line::Malformed

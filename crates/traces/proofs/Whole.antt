@@ -7,7 +7,7 @@ use lib.ListN.{length, drop, length-append}
 use lib.Seq.{length-take-le}
 use borrow.Author.Tests.{lt-ltb, le-ltb}
 use Rattle.traces.specs.Output.{Traced, traced, lastLine, traceOf}
-use Rattle.traces.specs.Calls.{TraceOutcome, traceOutcome, longestOutput, traceInto, written, Wrote}
+use Rattle.traces.specs.Calls.{TraceOutcome, traceOutcome, longestOutput, traceInto, written, WroteTrace}
 use Rattle.traces.specs.Places.{placed, Counts}
 use Rattle.traces.proofs.Steps.{lastLine-length, placed-start}
 
@@ -16,7 +16,7 @@ counts n l h = record { within = h; counted = sym (length-take-le n l h) }
 
 -- both of what a trace ensures
 abbrev pub Done : (input out : List ℕ) (r n : ℕ) (after : List ℕ) → Type 0
-Done input out r n after = Wrote input out r n after × Counts n after
+Done input out r n after = WroteTrace input out r n after × Counts n after
 
 pub too-short : (input out : List ℕ) → length out < longestOutput → Done input out 1 0 out
 unfolding traceInto

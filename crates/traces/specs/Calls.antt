@@ -28,9 +28,9 @@ written q out = traceOutcome (q .reply) (length (q .bytes)) (q .bytes ++ drop (l
 unfoldable pub traceInto : (input out : List ℕ) → TraceOutcome
 traceInto input out = elim (ltb (length out) longestOutput) [ true ↦ traceOutcome 1 0 out | false ↦ written (traceOf input) out ]
 
-abbrev pub Wrote : (input out : List ℕ) (reply length : ℕ) (after : List ℕ) → Type 0
-Wrote input out r n bs = traceOutcome r n bs ≡ traceInto input out
+abbrev pub WroteTrace : (input out : List ℕ) (reply length : ℕ) (after : List ℕ) → Type 0
+WroteTrace input out r n bs = traceOutcome r n bs ≡ traceInto input out
 
-pub only-wrote : (input out : List ℕ) (r s n m : ℕ) (after other : List ℕ) → Wrote input out r n after → Wrote input out s m other
+pub only-wrote-trace : (input out : List ℕ) (r s n m : ℕ) (after other : List ℕ) → WroteTrace input out r n after → WroteTrace input out s m other
     → traceOutcome r n after ≡ traceOutcome s m other
-only-wrote input out r s n m after other p q = p ∙ sym q
+only-wrote-trace input out r s n m after other p q = p ∙ sym q

@@ -18,26 +18,21 @@ use Rattle.choices.specs.Effect.{after, receive}
 use Rattle.choices.specs.Fit.{inTime, unfinished}
 use Rattle.choices.specs.Step.{choiceReply, stuck, canGo, accepted, withAgent, withSent}
 use Rattle.traces.specs.Input.{tableBytes, tableText, choiceLines, knownInChoices, badChoice, badChoiceOf, choicesIn}
-use Rattle.digits.specs.Hex.{hexChar, hexDigits, hexWords}
+use Rattle.digits.specs.Hex.{hexChar, hexDigits, hexWords, hexLine}
 use Rattle.traces.specs.Output.{stepLine, lastLine, traceFrom, traceChoices, refusedOr, traceOf}
 
--- a line of k digits
-line : (k m : ℕ) → List ℕ
-unfolding hexDigits hexChar
-line k m = hexDigits k m ++ (newline ∷ [])
-
 opens-0 : List ℕ
-opens-0 = line 36 0x000000000005000000000000000000000000
+opens-0 = hexLine 36 0x000000000005000000000000000000000000
 
 sends : List ℕ
-sends = line 36 0x010020000000000000070000000100000003
+sends = hexLine 36 0x010020000000000000070000000100000003
 
 table : List ℕ
 table =
     opens-0
     ++ (sends
-    ++ (line 36 0x000100000000000000000000000000000000
-    ++ (line 36 0x010130010000000000070000000400000008
+    ++ (hexLine 36 0x000100000000000000000000000000000000
+    ++ (hexLine 36 0x010130010000000000070000000400000008
     ++ endLine)))
 
 -- the trace of this input is this output
@@ -47,16 +42,16 @@ gives input output = same (traceOf input .bytes) output
 
 cases : T (every (
     -- 01's example
-    gives (table ++ (line 12 0x020000000003 ++ line 12 0x020100000004))
-    (line 46 0x0300010000000300000005000000000000000000000000 ++ (line 46 0x0301010000000400000000000000050000000000000000 ++ line 8 0xFE000002))
+    gives (table ++ (hexLine 12 0x020000000003 ++ hexLine 12 0x020100000004))
+    (hexLine 46 0x0300010000000300000005000000000000000000000000 ++ (hexLine 46 0x0301010000000400000000000000050000000000000000 ++ hexLine 8 0xFE000002))
     -- a choice line is cut: 18, "its line number in the whole input .. before any step"
-    ∷ gives (table ++ (line 12 0x020000000003 ++ line 10 0x0201000000)) (line 8 0xFE120007)
+    ∷ gives (table ++ (hexLine 12 0x020000000003 ++ hexLine 10 0x0201000000)) (hexLine 8 0xFE120007)
     -- the earliest line counts: 19 for an empty one, though a letter follows
-    ∷ gives (opens-0 ++ (sends ++ (newline ∷ 103 ∷ newline ∷ []))) (line 8 0xFE130003)
+    ∷ gives (opens-0 ++ (sends ++ (newline ∷ 103 ∷ newline ∷ []))) (hexLine 8 0xFE130003)
     -- "all before 3 on one line": a row with no open agent that is cut too
-    ∷ gives (line 34 0x0100200000000000000700000001000000) (line 8 0xFE120001)
+    ∷ gives (hexLine 34 0x0100200000000000000700000001000000) (hexLine 8 0xFE120001)
     ∷ []))
-unfolding opens-0 sends table gives line every
+unfolding opens-0 sends table gives hexLine every
 cases = tt
 
 -- "in choice lines only `02` is known"
@@ -64,11 +59,11 @@ asks : List ℕ → ℕ → Bool
 asks l r = eqb (judgedReply (judge knownInChoices l)) r
 
 choices : T (every (
-    asks (line 12 0x020000000003) 0
-    ∷ asks (line 2 0x02) 18
-    ∷ asks (line 14 0x02000000000300) 18
-    ∷ asks (line 2 0xFF) 19
-    ∷ asks (line 36 0x000000000005000000000000000000000000) 19
+    asks (hexLine 12 0x020000000003) 0
+    ∷ asks (hexLine 2 0x02) 18
+    ∷ asks (hexLine 14 0x02000000000300) 18
+    ∷ asks (hexLine 2 0xFF) 19
+    ∷ asks (hexLine 36 0x000000000005000000000000000000000000) 19
     ∷ []))
-unfolding asks line every judgedReply faultReply judge judgeKind onlyDigits beginsWith digitsLine same allHex field number hexDigit hexDigits hexChar
+unfolding asks hexLine every judgedReply faultReply judge judgeKind onlyDigits beginsWith digitsLine same allHex field number hexDigit hexDigits hexChar
 choices = tt

@@ -1,5 +1,5 @@
 -- Vocabulary of the code alone, in which this crate's functions are stated, and what a caller that lends a part has to know: the public statement
--- `Wrote` does not need it.
+-- `WroteTrace` does not need it.
 -- What is put at a place of the output. Assumes nothing.
 use mathlib.Core.List.{List}
 use mathlib.Core.Path.{_≡_}

@@ -15,7 +15,7 @@ use tables::replies::INPUT_TOO_LONG;
 ghost use mathlib.Core.Path.{_≡_};
 ghost use lib.ListN.{length};
 ghost use Rattle.tables.specs.Layout.{tableWords};
-ghost use Rattle.traces.specs.Calls.{Wrote};
+ghost use Rattle.traces.specs.Calls.{WroteTrace};
 ghost use Rattle.traces.specs.Places.{Counts};
 
 mod input; // input.rt: the table's text and the choice lines
@@ -43,7 +43,7 @@ fn blank_table() -> [u32; TABLE_WORDS]
 
 // The output for an input, at the start of `out`.
 pub fn trace(input: &[u8], out: &mut [u8]) -> TraceReply
-    ensures wrote { λ r. ⌜ Wrote (now (input .entry)) (now (out .entry)) (r .reply) (r .length) (now (out .exit)) ⌝ }
+    ensures wrote { λ r. ⌜ WroteTrace (now (input .entry)) (now (out .entry)) (r .reply) (r .length) (now (out .exit)) ⌝ }
     ensures counts { λ r. ⌜ Counts (r .length) (now (out .exit)) ⌝ }
 {
     if out.len() < LONGEST_OUTPUT {

@@ -1,5 +1,6 @@
 // The lines of the output, put into a lent buffer from a place on.
 use choices::Agent;
+use digits::BYTE_DIGITS;
 use digits::put_four;
 use digits::put_hex;
 use digits::put_word;
@@ -33,9 +34,9 @@ pub fn put_step_line(out: &mut [u8], at: usize, a: u32, t: u32, s: Agent)
     ensures { λ _. ⌜ now (out .exit) ≡ sets (now (out .entry)) at (stepLine a t s) ⌝ }
 {
     let regs = s.regs;
-    put_hex(out, at, 2, 0x03);
-    put_hex(out, at + 2, 2, a);
-    put_hex(out, at + 4, 2, s.pos);
+    put_hex(out, at, BYTE_DIGITS, 0x03);
+    put_hex(out, at + 2, BYTE_DIGITS, a);
+    put_hex(out, at + 4, BYTE_DIGITS, s.pos);
     put_word(out, at + 6, t);
     put_registers(out, at + 14, regs);
     out[at + STEP_DIGITS] = b'\n';
@@ -46,8 +47,8 @@ pub fn put_last_line(out: &mut [u8], at: usize, reply: u32, n: u32)
     requires { ⌜ at + 9 ≤ length (now out) ⌝ }
     ensures { λ _. ⌜ now (out .exit) ≡ sets (now (out .entry)) at (lastLine reply n) ⌝ }
 {
-    put_hex(out, at, 2, 0xFE);
-    put_hex(out, at + 2, 2, reply);
+    put_hex(out, at, BYTE_DIGITS, 0xFE);
+    put_hex(out, at + 2, BYTE_DIGITS, reply);
     put_hex(out, at + 4, 4, n);
     out[at + LAST_DIGITS] = b'\n';
 }

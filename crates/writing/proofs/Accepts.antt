@@ -1,43 +1,22 @@
 -- The frames in the words of a good table are in their places, and each row passes. Assumes nothing.
-use mathlib.Core.Path.{_≡_, refl, sym, ap, _∙_}
-use mathlib.Core.Bool.{Bool, true, false, _&&_}
+use mathlib.Core.Path.{_≡_, ap, _∙_}
+use mathlib.Core.Bool.{true}
 use mathlib.Core.List.{List, [], _++_}
 use Prim.Native.Nat.{ℕ, zero, suc, _+_, _-_, _≤_, _<_}
 use native.Mathlib.Numerals.{add-one}
 use native.Mathlib.Omega.{arith}
-use lib.Dec.{ltb, eqb}
-use borrow.Author.Tests.{ltb-true, lt-leb, eq-eqb, ne-eqb}
 use Rattle.tables.specs.Basics.{first}
 use Rattle.tables.specs.Layout.{agents, rows, startPlace, rowPlace}
 use Rattle.tables.specs.Table.{earlyBefore, lateBefore, rowReplyAt, goodTable}
 use Rattle.tables.specs.Frames.{Frame}
-use Rattle.tables.proofs.Tests.{and-left, and-right, not-t}
 use Rattle.tables.proofs.Good.{some, few, some-rows, few-rows, row-passes}
-use Rattle.reading.specs.Reader.{told, inPlace, rowsNext, rowsGood}
-use Rattle.reading.proofs.Places.{mayOpen, mayGive, rule-kept, no-rule, place-open, place-give, place-end, may-end}
-use Rattle.reading.proofs.RowsRead.{good-row}
+use Rattle.reading.specs.Reader.{told, inPlace, rowsGood}
+use Rattle.reading.proofs.Places.{may-open, may-give, place-open, place-give, place-end, may-end}
+use Rattle.reading.proofs.RowsRead.{good-open, good-row, good-end}
 use Rattle.writing.specs.Writer.{fourAt, rowsFrom, agentsFrom, framesIn}
+use Rattle.writing.proofs.Counts.{rows-counted}
 
 -- ---- in their places
-
--- the next agent may be opened, where the one before it has rows
-may-open : (a i : ℕ) → a < 16 → (0 < a → 0 < i) → mayOpen a a i ≡ true
-may-open a i h some =
-    sym
-    (rule-kept _ _ _ _ (not-t (eqb a a) (eq-eqb a a refl))
-    (rule-kept _ _ _ _ (lt-leb 16 a h)
-    (rule-kept _ _ _ _ (none (ltb 0 a) refl) no-rule)))
-  where
-    none : (b : Bool) → ltb 0 a ≡ b → (ltb 0 a && eqb i 0) ≡ false
-    none true e = let m = some (ltb-true 0 a e) in and-right (ltb 0 a) (eqb i 0) (ne-eqb i 0 (λ z. omega arith))
-    none false e = and-left (ltb 0 a) (eqb i 0) e
-
-may-give : (b i : ℕ) → i < 32 → mayGive b (b + 1) i ≡ true
-may-give b i h =
-    sym
-    (rule-kept _ _ _ _ (ne-eqb (b + 1) 0 (λ e. omega arith))
-    (rule-kept _ _ _ _ (not-t (eqb b (b + 1 - 1)) (eq-eqb b (b + 1 - 1) (omega arith)))
-    (rule-kept _ _ _ _ (lt-leb 32 i h) no-rule)))
 
 module _ (tb : List ℕ) where
   rows-placed : (c n b i : ℕ) (gs : List Frame) → i + c ≤ 32 → inPlace n (b + 1) i (rowsFrom tb b i c ++ gs) ≡ inPlace (n + c) (b + 1) (i + c) gs
@@ -50,13 +29,6 @@ module _ (tb : List ℕ) where
       ∙ ap (λ (j : ℕ). inPlace (n + 1) (b + 1) j (rowsFrom tb b (suc i) c ++ gs)) (add-one i)
       ∙ rows-placed c (n + 1) b (suc i) gs (omega arith)
       ∙ (λ k. inPlace (e k) (b + 1) (f k) gs)
-
-  -- the rows that come before what n agents begin with
-  pub rows-counted : (c a i b n : ℕ) → rowsNext (rowsFrom tb a i c ++ agentsFrom tb b n) ≡ c
-  unfolding rowsNext rowsFrom agentsFrom
-  rows-counted zero a i b zero = refl
-  rows-counted zero a i b (suc n) = refl
-  rows-counted (suc c) a i b n = ap suc (rows-counted c a (suc i) b n)
 
   module _ (good : goodTable tb ≡ true) where
     agents-placed : (n m a i : ℕ) → a + n ≡ agents tb → (0 < a → 0 < i) → inPlace m a i (agentsFrom tb a n) ≡ told 0 0
@@ -95,12 +67,13 @@ module _ (tb : List ℕ) where
         ∙ (λ k. rowsGood (p k) (rows tb a) (q k) (early a (q k)) (late a (q k)) gs)
 
     agents-pass : (n m a c i e l : ℕ) → a + n ≡ agents tb → rowsGood m c i e l (agentsFrom tb a n) ≡ told 0 0
-    unfolding agentsFrom rowsGood earlyBefore lateBefore
-    agents-pass zero m a c i e l all = refl
+    unfolding agentsFrom earlyBefore lateBefore
+    agents-pass zero m a c i e l all = good-end m c i e l []
     agents-pass (suc n) m a c i e l all =
         let gs = agentsFrom tb (suc a) n in
         let k = rows tb a in
-        ap (λ (j : ℕ). rowsGood (m + 1) j 0 0 0 (rowsFrom tb a 0 k ++ gs)) (rows-counted k a 0 (suc a) n)
+        good-open m c i e l a (fourAt tb (startPlace a)) (rowsFrom tb a 0 k ++ gs)
+        ∙ ap (λ (j : ℕ). rowsGood (m + 1) j 0 0 0 (rowsFrom tb a 0 k ++ gs)) (rows-counted tb k a 0 (suc a) n)
         ∙ rows-pass k (m + 1) a 0 gs (omega arith) (omega arith)
         ∙ agents-pass n (m + 1 + k) (suc a) k (0 + k) (early a (0 + k)) (late a (0 + k)) (omega arith)
 

@@ -2,7 +2,7 @@
 use mathlib.Core.Path.{_≡_, refl, sym, ap, _∙_}
 use mathlib.Core.Bool.{true}
 use mathlib.Core.List.{List, [], _∷_, _++_, map, append-assoc}
-use Prim.Native.Nat.{ℕ, _+_, _^_, _≤_, _<_}
+use Prim.Native.Nat.{ℕ, _+_, _*_, _^_, _≤_, _<_}
 use native.Mathlib.Omega.{arith}
 use lib.ListN.{length, take, drop, getD, length-append}
 use Rattle.tables.specs.Small.{Small}
@@ -10,13 +10,11 @@ use Rattle.tables.specs.Lines.{newline, endLine, lines, allHex, field, digitsLi
 use Rattle.tables.specs.Frames.{Frame, opens, gives, ends, malformed, fourWords, frameOf, framesOf}
 use Rattle.tables.proofs.Lines.{same-eq, same-self, hex-part}
 use Rattle.tables.proofs.Newlines.{joined, line-hex, line-end, line-length, lines-end}
-use Rattle.tables.proofs.Judging.{fault-some}
 use Rattle.tables.proofs.TableLine.{Tells, tells, kindFrame, line-frame, end-frame}
 use Rattle.digits.specs.Hex.{hexDigits, hexWords}
 use Rattle.digits.proofs.Writes.{hexDigits-length, hexWords-length, four-of}
-use Rattle.digits.proofs.Back.{hex-append, digits-hex, words-hex, digits-field, digits-past, fourDigits, four-flat, four-fields, made-line, line-first, field-written}
-use Rattle.reading.specs.Reader.{inPlace}
-use Rattle.reading.proofs.Accepted.{Placed, open-on, give-on, last-line}
+use Rattle.digits.proofs.Back.{hex-append, digits-hex, words-hex, digits-field, digits-past, word-field, made-line, line-first, field-written}
+use Rattle.reading.proofs.Accepted.{Placed, open-on, give-on, last-line, fault-placed}
 use Rattle.writing.specs.Writer.{frameLine, lineOf, linesOf}
 use Rattle.writing.proofs.Lengths.{frame-length}
 
@@ -36,42 +34,39 @@ module _ (kind a : ℕ) (ws : List ℕ) (four : length ws ≡ 4) where
       ∙ made-line 36 body (simp (length-append, hexDigits-length, hexWords-length, four))
       (hex-append (hexDigits 2 kind) _ (digits-hex 2 kind) (hex-append (hexDigits 2 a) _ (digits-hex 2 a) (words-hex ws)))
 
--- its fields, where it is flat
-module _ (kind a w x y z : ℕ) where
-  abbrev four-words : List ℕ
-  four-words = fourDigits w x y z (newline ∷ [])
+-- its fields
+module _ (kind a : ℕ) (ws : List ℕ) (four : length ws ≡ 4) (hk : kind < 16 ^ 2) (ha : a < 16 ^ 2) (small : Small ws) where
+  abbrev rest : List ℕ
+  rest = hexWords ws ++ (newline ∷ [])
 
-  abbrev flat : List ℕ
-  flat = hexDigits 2 kind ++ (hexDigits 2 a ++ four-words)
-
-  flat-is : frameLine kind a (w ∷ x ∷ y ∷ z ∷ []) ≡ flat
+  kind-at : field (frameLine kind a ws) 0 2 ≡ kind
   unfolding frameLine
-  flat-is = ap (λ (l : List ℕ). hexDigits 2 kind ++ (hexDigits 2 a ++ l)) (four-flat w x y z (newline ∷ []))
+  kind-at = digits-field 2 kind _ hk
 
-  past-agent : (i k : ℕ) → field flat (4 + i) k ≡ field four-words i k
-  past-agent i k =
-      let e : 4 + i ≡ 2 + (2 + i) = omega arith in
-      ap (λ (j : ℕ). field flat j k) e ∙ digits-past 2 kind _ (2 + i) k ∙ digits-past 2 a four-words i k
+  agent-at : field (frameLine kind a ws) 2 2 ≡ a
+  unfolding frameLine
+  agent-at = digits-past 2 kind _ 0 2 ∙ digits-field 2 a rest ha
 
-  module _ (hk : kind < 16 ^ 2) (ha : a < 16 ^ 2) (hw : w < 16 ^ 8) (hx : x < 16 ^ 8) (hy : y < 16 ^ 8) (hz : z < 16 ^ 8) where
-    kind-at : field flat 0 2 ≡ kind
-    kind-at = digits-field 2 kind _ hk
+  word-at : (j i : ℕ) → i ≡ 4 + 8 * j → j < 4 → field (frameLine kind a ws) i 8 ≡ getD ws j 0
+  unfolding frameLine
+  word-at j i e h =
+      let q : i ≡ 2 + (2 + 8 * j) = omega arith in
+      ap (λ (k : ℕ). field (hexDigits 2 kind ++ (hexDigits 2 a ++ rest)) k 8) q
+      ∙ digits-past 2 kind (hexDigits 2 a ++ rest) (2 + 8 * j) 8
+      ∙ digits-past 2 a rest (8 * j) 8
+      ∙ word-field ws (newline ∷ []) small j (omega arith)
 
-    agent-at : field flat 2 2 ≡ a
-    agent-at = digits-past 2 kind _ 0 2 ∙ digits-field 2 a four-words ha
+  words-at : fourWords (frameLine kind a ws) ≡ ws
+  unfolding fourWords
+  words-at =
+      let e0 = word-at 0 4 (omega arith) (omega arith) in
+      let e1 = word-at 1 12 (omega arith) (omega arith) in
+      let e2 = word-at 2 20 (omega arith) (omega arith) in
+      let e3 = word-at 3 28 (omega arith) (omega arith) in
+      (λ i. e0 i ∷ e1 i ∷ e2 i ∷ e3 i ∷ []) ∙ sym (four-of ws four)
 
-    words-at : fourWords flat ≡ w ∷ x ∷ y ∷ z ∷ []
-    unfolding fourWords
-    words-at =
-        let e = four-fields w x y z (newline ∷ []) hw hx hy hz in
-        let e0 : field flat 4 8 ≡ w = past-agent 0 8 ∙ e .0 in
-        let e1 : field flat 12 8 ≡ x = past-agent 8 8 ∙ e .1 in
-        let e2 : field flat 20 8 ≡ y = past-agent 16 8 ∙ e .2 in
-        let e3 : field flat 28 8 ≡ z = past-agent 24 8 ∙ e .3 in
-        λ i. e0 i ∷ e1 i ∷ e2 i ∷ e3 i ∷ []
-
-    flat-frame : digitsLine 36 flat ≡ true → frameOf flat ≡ kindFrame kind a (w ∷ x ∷ y ∷ z ∷ [])
-    flat-frame d = line-frame flat d ∙ (λ i. kindFrame (kind-at i) (agent-at i) (words-at i))
+  frame-read : frameOf (frameLine kind a ws) ≡ kindFrame kind a ws
+  frame-read = line-frame (frameLine kind a ws) (frame-digits kind a ws four) ∙ (λ i. kindFrame (kind-at i) (agent-at i) (words-at i))
 
 -- a frame that a line can give
 abbrev pub Plain : Frame → Type 0
@@ -84,19 +79,10 @@ abbrev pub AllPlain : List Frame → Type 0
 AllPlain [] = Unit
 AllPlain (f ∷ fs) = Plain f × AllPlain fs
 
-frame-read : (kind a : ℕ) (ws : List ℕ) → kind < 256 → a < 256 → length ws ≡ 4 → Small ws → frameOf (frameLine kind a ws) ≡ kindFrame kind a ws
-frame-read kind a ws hk ha four small =
-    let e = four-of ws four in
-    let l = ap (frameLine kind a) e ∙ flat-is kind a (getD ws 0 0) (getD ws 1 0) (getD ws 2 0) (getD ws 3 0) in
-    ap frameOf l
-    ∙ flat-frame kind a (getD ws 0 0) (getD ws 1 0) (getD ws 2 0) (getD ws 3 0) hk ha (small .word 0) (small .word 1) (small .word 2) (small .word 3)
-    (sym (ap (digitsLine 36) l) ∙ frame-digits kind a ws four)
-    ∙ ap (kindFrame kind a) (sym e)
-
 frame-back : (f : Frame) → Plain f → frameOf (lineOf f) ≡ f
 unfolding lineOf
-frame-back (opens a ws) h = frame-read 0x00 a ws (omega arith) (h .0) (h .1) (h .2)
-frame-back (gives a ws) h = frame-read 0x01 a ws (omega arith) (h .0) (h .1) (h .2)
+frame-back (opens a ws) h = frame-read 0x00 a ws (h .1) (omega arith) (h .0) (h .2)
+frame-back (gives a ws) h = frame-read 0x01 a ws (h .1) (omega arith) (h .0) (h .2)
 frame-back ends h = end-frame
 frame-back (malformed w) h = absurd h
 
@@ -119,12 +105,12 @@ frames-back (f ∷ fs) h =
 -- ---- a line that is read, and written
 
 line-written : (l : List ℕ) → digitsLine 36 l ≡ true → frameLine (field l 0 2) (field l 2 2) (fourWords l) ≡ l
-unfolding fourWords
+unfolding frameLine fourWords hexWords
 line-written l d =
     let n = line-length 36 l d in
     let hex : (i k : ℕ) → i + k ≤ 36 → allHex (take k (drop i l)) ≡ true = λ i k h. hex-part l 36 i k (line-hex 36 l d) h in
     let piece : (i k m : ℕ) → i + k ≡ m → m ≤ 36 → hexDigits k (field l i k) ++ drop m l ≡ drop i l = λ i k m e h. field-written l i k m e (omega arith) (hex i k (omega arith)) in
-    flat-is (field l 0 2) (field l 2 2) (field l 4 8) (field l 12 8) (field l 20 8) (field l 28 8)
+    (simp append-assoc)
     ∙ ap
     (λ (r : List ℕ). hexDigits 2 (field l 0 2) ++ (hexDigits 2 (field l 2 2) ++ (hexDigits 8 (field l 4 8) ++ (hexDigits 8 (field l 12 8) ++ (hexDigits 8 (field l 20 8) ++ (hexDigits 8 (field l 28 8) ++ r))))))
     (sym (line-end 36 l d))
@@ -133,7 +119,7 @@ line-written l d =
 
 -- lines in their places, written as the text that they are
 pub text-back : (ls : List (List ℕ)) (n a i : ℕ) → Placed n a i (map frameOf ls) → linesOf (map frameOf ls) ≡ joined ls
-unfolding linesOf lineOf joined inPlace
+unfolding linesOf lineOf joined
 text-back [] n a i q = refl
 text-back (l ∷ ls) n a i q = go (frameOf l) (tells l) q (λ n a i. text-back ls n a i)
   where
@@ -148,4 +134,4 @@ text-back (l ∷ ls) n a i q = go (frameOf l) (tells l) q (λ n a i. text-back l
     go ends t q rec =
         let z = last-line n a i ls q in
         rw (z, same-eq l endLine t)
-    go (malformed w) t q rec = absurd (fault-some w (q .placed))
+    go (malformed w) t q rec = absurd (fault-placed n a i w (map frameOf ls) q)

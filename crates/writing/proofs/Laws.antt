@@ -5,23 +5,23 @@ use mathlib.Core.List.{List, _++_, append-nil}
 use Prim.Native.Nat.{ℕ, zero, suc, _+_, _≤_, _<_}
 use native.Mathlib.Omega.{arith}
 use lib.Dec.{ltb}
-use lib.ListN.{length, take, drop, replicate, length-replicate, drop-of-length-le}
+use lib.ListN.{length, take, drop, drop-of-length-le}
 use lib.Seq.{take-at, take-all}
 use borrow.Author.Tests.{ltb-true, ltb-false}
 use Rattle.tables.specs.Small.{Small}
 use Rattle.tables.specs.Layout.{agents, rows, startPlace, rowPlace, tableWords}
 use Rattle.tables.specs.Lines.{lines}
-use Rattle.tables.specs.Frames.{Frame, gives, framesOf}
+use Rattle.tables.specs.Frames.{Frame, framesOf}
 use Rattle.tables.specs.Table.{goodTable}
 use Rattle.tables.specs.Calls.{checkReply}
 use Rattle.tables.proofs.Newlines.{joined-lines}
 use Rattle.tables.proofs.Good.{few, checked-good}
-use Rattle.tables.proofs.Small.{small-nil, small-cons, small-take}
+use Rattle.tables.proofs.Small.{small-nil, small-cons}
 use Rattle.reading.specs.Reader.{told, rowsGood, framesReply, tableOf}
 use Rattle.reading.specs.declared.Told.{Told}
 use Rattle.reading.specs.Calls.{ReadOutcome, readOutcome, readInto}
 use Rattle.reading.proofs.Accepted.{placed-first}
-use Rattle.reading.proofs.Outcomes.{in-places, accepted-placed, accepted-read, all-good}
+use Rattle.reading.proofs.Outcomes.{in-places, accepted-placed, accepted-read, all-good, blank, blank-length}
 use Rattle.reading.proofs.ReadGood.{frames-four, table-length, read-good}
 use Rattle.reading.proofs.ReadSmall.{words-small}
 use Rattle.reading.proofs.Laws.{read-is-checked}
@@ -29,7 +29,7 @@ use Rattle.writing.specs.Writer.{fourAt, linesOf, rowsFrom, agentsFrom, 
 use Rattle.writing.specs.Calls.{WriteOutcome, wrote, writeOutcome, writeInto}
 use Rattle.writing.specs.Laws.{bytesWritten, WrittenIsRead, ReadIsWritten, Accepted, ReadFrom, AcceptedAreRead, LengthOfTable, RoomIsEnough, LengthBounds}
 use Rattle.writing.proofs.Lengths.{text-length, length-within}
-use Rattle.writing.proofs.Outcomes.{checked-words, too-long, all-written, accepted-write}
+use Rattle.writing.proofs.Outcomes.{checked-words, too-long, all-written}
 use Rattle.writing.proofs.FrameLines.{AllPlain, frames-back, text-back}
 use Rattle.writing.proofs.Loaded.{table-frames}
 use Rattle.writing.proofs.Accepts.{frames-placed, frames-pass}
@@ -68,7 +68,7 @@ module _ (tb : List ℕ) (long : length tb ≡ tableWords) (small : Small tb) (g
       let back : framesIn (tableOf fs) ≡ fs = table-frames fs (frames-four (lines (textOf tb))) (accepted-placed fs reply-placed) in
       same-words (tableOf fs) tb (table-length fs) long (read-good (textOf tb) reply-placed) good (back ∙ frames-read)
 
-  pub text-read : (lent : List ℕ) → tableWords ≤ length lent → readInto (textOf tb) lent ≡ readOutcome (told 0 0) (tb ++ drop tableWords lent)
+  text-read : (lent : List ℕ) → tableWords ≤ length lent → readInto (textOf tb) lent ≡ readOutcome (told 0 0) (tb ++ drop tableWords lent)
   text-read lent room =
       let fs = framesOf (textOf tb) in
       sym
@@ -76,17 +76,18 @@ module _ (tb : List ℕ) (long : length tb ≡ tableWords) (small : Small tb) (g
       (sym (frames-pass tb good) ∙ ap (λ (gs : List Frame). rowsGood 1 0 0 0 0 gs) (sym frames-read)) refl tb (sym words-read))
 
 pub written-is-read : WrittenIsRead
-written-is-read tb text lent small z room =
-    let a = accepted-write tb text z in
-    let bs = textOf (take tableWords tb) in
-    let o = all-written tb text (a .0) (a .1) in
-    let w = checked-words tb (a .0) in
+written-is-read tb text lent ok small room long =
+    let words = take tableWords tb in
+    let bs = textOf words in
+    let w = checked-words tb ok in
+    let n = text-length words in
+    let o = all-written tb text ok (omega arith) in
     let e : bytesWritten tb text ≡ bs = ap (λ (q : WriteOutcome). take (q .wrote .length) (q .text)) o ∙ take-at bs (drop (length bs) text) (length bs) refl in
-    ap (λ (l : List ℕ). readInto l lent) e ∙ text-read (take tableWords tb) (w .0) (small-take tableWords small) (w .1) lent room
+    ap (λ (l : List ℕ). readInto l lent) e ∙ text-read words (w .0) small (w .1) lent long
 
 -- ---- a text that is read is the text of its words
 
-pub text-written : (text : List ℕ) → framesReply (framesOf text) .reply ≡ 0 → textOf (tableOf (framesOf text)) ≡ text
+text-written : (text : List ℕ) → framesReply (framesOf text) .reply ≡ 0 → textOf (tableOf (framesOf text)) ≡ text
 unfolding textOf framesOf
 text-written text h =
     let fs = framesOf text in
@@ -106,12 +107,6 @@ read-is-written text tb lent z room =
 
 -- ---- the tables that are accepted are those that are read
 
-abbrev blank : List ℕ
-blank = replicate tableWords 0
-
-blank-length : length blank ≡ tableWords
-blank-length = length-replicate {A = ℕ} tableWords 0
-
 -- nothing stands past it
 none-past : (tb : List ℕ) → tb ++ drop tableWords blank ≡ tb
 none-past tb = ap (λ (l : List ℕ). tb ++ l) (drop-of-length-le blank {i = tableWords} (omega (arith, blank-length))) ∙ append-nil tb
@@ -124,17 +119,17 @@ accepted-are-read tb = (there, back)
         let good = ap goodTable (sym (take-all tableWords tb (omega (arith, a .0)))) ∙ checked-good tb (a .2) .1 in
         record {
           text = textOf tb;
-          gives = text-read tb (a .0) (a .1) good blank (omega (arith, blank-length)) ∙ ap (readOutcome (told 0 0)) (none-past tb);
+          reads = text-read tb (a .0) (a .1) good blank (omega (arith, blank-length)) ∙ ap (readOutcome (told 0 0)) (none-past tb);
         }
 
     back : ReadFrom tb → Accepted tb
     back r =
         let fs = framesOf (r .text) in
-        let q = accepted-read (r .text) blank (told 0 0) tb (sym (r .gives)) refl in
+        let q = accepted-read (r .text) blank (told 0 0) tb (sym (r .reads)) refl in
         let e : tb ≡ tableOf fs = q .1 ∙ none-past (tableOf fs) in (
           ap length e ∙ table-length fs,
           subst Small (sym e) (words-small (r .text) (q .0)),
-          ap (λ (o : ReadOutcome). checkReply (o .table)) (sym (r .gives)) ∙ read-is-checked (r .text) blank (ap (λ (o : ReadOutcome). o .told .reply) (r .gives)),
+          ap (λ (o : ReadOutcome). checkReply (o .table)) (sym (r .reads)) ∙ read-is-checked (r .text) blank (ap (λ (o : ReadOutcome). o .told .reply) (r .reads)),
         )
 
 -- ---- how long a text is
@@ -150,4 +145,4 @@ pub room-is-enough : RoomIsEnough
 room-is-enough tb text ok room = let e = text-length (take tableWords tb) in ap (λ (o : WriteOutcome). o .wrote .reply) (all-written tb text ok (omega arith))
 
 pub length-bounds : LengthBounds
-length-bounds tb ok = length-within (take tableWords tb) (checked-good tb ok .1)
+length-bounds tb text ok = rw (length-of-table tb text ok) (length-within (take tableWords tb) (checked-good tb ok .1))

@@ -14,13 +14,13 @@ use Rattle.tables.specs.Frames.{Frame}
 use Rattle.tables.proofs.Good.{some, few, some-rows, few-rows}
 use Rattle.digits.proofs.Writes.{hexDigits-length, hexWords-length}
 use Rattle.writing.specs.Writer.{fourAt, frameLine, lineOf, linesOf, rowsFrom, agentsFrom, framesIn, textOf}
-use Rattle.writing.specs.Laws.{rowsOf, textLength}
+use Rattle.writing.specs.Laws.{rowTotal, textLength}
 
 pub frame-length : (kind a : ℕ) (ws : List ℕ) → length ws ≡ 4 → length (frameLine kind a ws) ≡ 37
 unfolding frameLine
 frame-length kind a ws four = simp (length-append, hexDigits-length, hexWords-length, four)
 
-pub lines-append : (fs gs : List Frame) → linesOf (fs ++ gs) ≡ linesOf fs ++ linesOf gs
+lines-append : (fs gs : List Frame) → linesOf (fs ++ gs) ≡ linesOf fs ++ linesOf gs
 unfolding linesOf
 lines-append [] gs = refl
 lines-append (f ∷ fs) gs = ap (λ (l : List ℕ). lineOf f ++ l) (lines-append fs gs) ∙ sym (append-assoc (lineOf f) (linesOf fs) (linesOf gs))
@@ -40,8 +40,8 @@ module _ (tb : List ℕ) where
   agent-lines a n = ap (λ (l : List ℕ). frameLine 0x00 a (fourAt tb (startPlace a)) ++ l) (lines-append (rowsFrom tb a 0 (rows tb a)) (agentsFrom tb (suc a) n))
 
   -- the lines of n agents from agent a on, with the rows of those before
-  pub agents-length : (n a : ℕ) → length (linesOf (agentsFrom tb a n)) + 37 * rowsOf tb a ≡ 37 * (n + rowsOf tb (a + n)) + 3
-  unfolding linesOf agentsFrom lineOf rowsOf
+  agents-length : (n a : ℕ) → length (linesOf (agentsFrom tb a n)) + 37 * rowTotal tb a ≡ 37 * (n + rowTotal tb (a + n)) + 3
+  unfolding linesOf agentsFrom lineOf rowTotal
   agents-length zero a = let e : a + 0 ≡ a = omega arith in rw e (omega arith)
   agents-length (suc n) a =
       let f = frameLine 0x00 a (fourAt tb (startPlace a)) in
@@ -52,30 +52,30 @@ module _ (tb : List ℕ) where
       let k = rows-length a 0 (rows tb a) in
       let rec = agents-length n (suc a) in
       let e : suc a + n ≡ a + suc n = omega arith in
-      let s = ap (rowsOf tb) e in
+      let s = ap (rowTotal tb) e in
       omega arith
 
   pub text-length : length (textOf tb) ≡ textLength tb
-  unfolding textOf framesIn textLength rowsOf
+  unfolding textOf framesIn textLength rowTotal
   text-length =
       let e = agents-length (agents tb) 0 in
       let z : 0 + agents tb ≡ agents tb = omega arith in
-      let s = ap (rowsOf tb) z in
+      let s = ap (rowTotal tb) z in
       omega arith
 
-  pub rows-grow : (a n : ℕ) → a ≤ n → rowsOf tb a ≤ rowsOf tb n
-  unfolding rowsOf
-  rows-grow a zero h = let e : a ≡ 0 = omega arith in let q = ap (rowsOf tb) e in omega arith
+  pub rows-grow : (a n : ℕ) → a ≤ n → rowTotal tb a ≤ rowTotal tb n
+  unfolding rowTotal
+  rows-grow a zero h = let e : a ≡ 0 = omega arith in let q = ap (rowTotal tb) e in omega arith
   rows-grow a (suc n) h = go (λ k. rows-grow a n k) (eqb a (suc n)) refl
     where
-      go : (a ≤ n → rowsOf tb a ≤ rowsOf tb n) → (b : Bool) → eqb a (suc n) ≡ b → rowsOf tb a ≤ rowsOf tb n + rows tb n
-      go rec true e = let q = ap (rowsOf tb) (eqb-true a (suc n) e) in omega arith
+      go : (a ≤ n → rowTotal tb a ≤ rowTotal tb n) → (b : Bool) → eqb a (suc n) ≡ b → rowTotal tb a ≤ rowTotal tb n + rows tb n
+      go rec true e = let q = ap (rowTotal tb) (eqb-true a (suc n) e) in omega arith
       go rec false e = let r = rec (omega (arith, eqb-false a (suc n) e)) in omega arith
 
   module _ (good : goodTable tb ≡ true) where
     -- each agent has 1 to 32 rows
-    pub rows-within : (n : ℕ) → n ≤ agents tb → (n ≤ rowsOf tb n) × (rowsOf tb n ≤ 32 * n)
-    unfolding rowsOf
+    rows-within : (n : ℕ) → n ≤ agents tb → (n ≤ rowTotal tb n) × (rowTotal tb n ≤ 32 * n)
+    unfolding rowTotal
     rows-within zero h = (omega arith, omega arith)
     rows-within (suc n) h =
         let r = rows-within n (omega arith) in
@@ -100,15 +100,15 @@ module _ (tb : List ℕ) where
 pub record Counted (tb : List ℕ) (n lines a : ℕ) : Type 0 where
   pub within : a ≤ n
   pub all : n ≡ agents tb
-  pub sum : lines ≡ n + rowsOf tb a
+  pub sum : lines ≡ n + rowTotal tb a
 
 pub counted-none : (tb : List ℕ) (n : ℕ) → n ≡ agents tb → Counted tb n n 0
-unfolding rowsOf
+unfolding rowTotal
 counted-none tb n e = record { within = omega arith; all = e; sum = omega arith }
 
 module _ {tb : List ℕ} {n lines a : ℕ} (t : Counted tb n lines a) where
   pub counted-next : a < n → (c : ℕ) → c ≡ rows tb a → Counted tb n (lines + c) (a + 1)
-  unfolding rowsOf
+  unfolding rowTotal
   counted-next h c e = record { within = omega arith; all = t .all; sum = let s = t .sum in rw (add-one a) (omega arith) }
 
   module _ (good : goodTable tb ≡ true) where
@@ -130,7 +130,7 @@ module _ {tb : List ℕ} {n lines a : ℕ} (t : Counted tb n lines a) where
         let w = t .within in
         let all : a ≡ agents tb = omega (arith, t .all) in
         let e = text-length tb in
-        let q = ap (rowsOf tb) all in
+        let q = ap (rowTotal tb) all in
         let s = t .sum in
         let f = few-lines in
         (omega arith, omega arith)

@@ -3,6 +3,7 @@ pub mod Lengths
 pub mod Turns
 pub mod Outcomes
 pub mod FrameLines
+pub mod Counts
 pub mod Loaded
 pub mod Accepts
 pub mod SameFrames

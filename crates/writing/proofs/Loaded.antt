@@ -4,26 +4,19 @@ use mathlib.Core.List.{List, [], _∷_, _++_}
 use Prim.Native.Nat.{ℕ, suc, _+_, _-_, _≤_, _<_}
 use native.Mathlib.Numerals.{add-one}
 use native.Mathlib.Omega.{arith}
-use lib.ListN.{length, getD, set, replicate, length-set, length-replicate}
+use lib.ListN.{length, getD, set, length-set}
 use lib.Seq.{sets}
-use Rattle.tables.specs.Basics.{first}
 use Rattle.tables.specs.Layout.{agentsPlace, agents, countPlace, rows, startPlace, rowPlace, tableWords}
 use Rattle.tables.specs.Frames.{Frame, opens, gives, ends, malformed}
-use Rattle.tables.proofs.Judging.{fault-some}
 use Rattle.digits.proofs.Writes.{four-of}
 use Rattle.reading.specs.Reader.{inPlace, rowsNext, loaded, tableOf}
 use Rattle.reading.proofs.Stores.{sets-in, withOpened, opened-below, opened-above, withGiven, given-below, Now, now-opened, now-given}
-use Rattle.reading.proofs.Accepted.{Placed, placed-first, open-agent, open-next, open-on, give-agent, give-row, give-on, ends-last}
-use Rattle.reading.proofs.ReadGood.{Fours, zeros}
+use Rattle.reading.proofs.Outcomes.{blank, blank-length}
+use Rattle.reading.proofs.Accepted.{Placed, placed-first, open-agent, open-next, open-on, give-agent, give-row, give-on, ends-rows, ends-last, none-placed, fault-placed}
+use Rattle.reading.proofs.ReadGood.{Fours}
+use Rattle.tables.proofs.Zeros.{getD-zeros}
 use Rattle.writing.specs.Writer.{fourAt, rowsFrom, agentsFrom, framesIn}
-
--- the agents that are still to be opened before the end
-unfoldable pub agentsNext : List Frame → ℕ
-agentsNext [] = 0
-agentsNext (opens b ws ∷ fs) = suc (agentsNext fs)
-agentsNext (gives b ws ∷ fs) = agentsNext fs
-agentsNext (ends ∷ fs) = 0
-agentsNext (malformed w ∷ fs) = 0
+use Rattle.writing.proofs.Counts.{agentsNext}
 
 -- ---- a run of four stores
 
@@ -58,9 +51,9 @@ agent-frames end b m ws fs e r f =
     ∙ ap (λ (l : List Frame). opens b ws ∷ l) f
 
 kept : (fs : List Frame) (tb : List ℕ) (n b i : ℕ) → Fours fs → Now tb b i → Placed n (b + 1) i fs → Kept tb (loaded tb (b + 1) i fs) b i fs
-unfolding first inPlace loaded rowsNext agentsNext rowsFrom agentsFrom
-kept [] tb n b i f t q = absurd (let y = q .placed in omega arith)
-kept (malformed w ∷ fs) tb n b i f t q = absurd (fault-some w (q .placed))
+unfolding loaded rowsNext agentsNext rowsFrom agentsFrom
+kept [] tb n b i f t q = absurd (none-placed n (b + 1) i q)
+kept (malformed w ∷ fs) tb n b i f t q = absurd (fault-placed n (b + 1) i w fs q)
 kept (ends ∷ fs) tb n b i f t q = record {
   counts = λ k h l. refl;
   registers = λ k h l. refl;
@@ -119,10 +112,10 @@ kept (gives b′ ws ∷ fs) tb n b i f t q =
 -- ---- a whole table
 
 from-first : (fs : List Frame) (tb : List ℕ) → length tb ≡ tableWords → ((k : ℕ) → getD tb k 0 ≡ 0) → Fours fs → Placed 1 0 0 fs → framesIn (loaded tb 0 0 fs) ≡ fs
-unfolding first inPlace loaded framesIn
-from-first [] tb long zero-words f q = absurd (let y = q .placed in omega arith)
-from-first (malformed w ∷ fs) tb long zero-words f q = absurd (fault-some w (q .placed))
-from-first (ends ∷ fs) tb long zero-words f q = absurd (let y = q .placed in omega arith)
+unfolding loaded framesIn
+from-first [] tb long zero-words f q = absurd (none-placed 1 0 0 q)
+from-first (malformed w ∷ fs) tb long zero-words f q = absurd (fault-placed 1 0 0 w fs q)
+from-first (ends ∷ fs) tb long zero-words f q = absurd (let y = ends-rows 1 0 0 fs q in omega arith)
 from-first (gives b ws ∷ fs) tb long zero-words f q = absurd (let y = give-agent 1 0 0 b ws fs q in omega arith)
 from-first (opens b ws ∷ fs) tb long zero-words f q =
     let room = open-agent 1 0 0 b ws fs q in
@@ -139,4 +132,4 @@ from-first (opens b ws ∷ fs) tb long zero-words f q =
 
 pub table-frames : (fs : List Frame) → Fours fs → inPlace 1 0 0 fs .reply ≡ 0 → framesIn (tableOf fs) ≡ fs
 unfolding tableOf
-table-frames fs f h = from-first fs (replicate tableWords 0) (length-replicate {A = ℕ} tableWords 0) (zeros tableWords) f (placed-first fs h)
+table-frames fs f h = from-first fs blank blank-length (getD-zeros tableWords) f (placed-first fs h)

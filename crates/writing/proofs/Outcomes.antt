@@ -1,13 +1,11 @@
 -- The outcome of a write, by the reply of `check` and the room that there is. Assumes nothing.
-use mathlib.Core.Path.{_≡_, refl, sym, ap, _∙_}
-use mathlib.Core.Bool.{Bool, true, false}
+use mathlib.Core.Path.{_≡_, refl, ap, _∙_}
+use mathlib.Core.Bool.{true}
 use mathlib.Core.List.{List, _++_}
 use Prim.Native.Nat.{ℕ, zero, suc, _≤_, _<_}
-use native.Mathlib.Omega.{arith}
-use lib.Dec.{ltb}
 use lib.ListN.{length, take, drop}
 use lib.Seq.{length-take-le}
-use borrow.Author.Tests.{lt-ltb, le-ltb, ltb-true, ltb-false}
+use borrow.Author.Tests.{lt-ltb, le-ltb}
 use Rattle.tables.specs.Layout.{tableWords}
 use Rattle.tables.specs.Table.{goodTable}
 use Rattle.tables.specs.Calls.{checkReply}
@@ -50,13 +48,3 @@ module _ (tb text : List ℕ) where
 
     pub all-written : length bytes ≤ length text → writeInto tb text ≡ writeOutcome (wrote 0 (length bytes)) (bytes ++ drop (length bytes) text)
     all-written h = accepted ∙ with-room bytes text h
-
-  -- ---- a write that was accepted
-
-  pub accepted-write : writeInto tb text .wrote .reply ≡ 0 → (checkReply tb ≡ 0) × (length bytes ≤ length text)
-  accepted-write z = go (checkReply tb) refl (ltb (length text) (length bytes)) refl
-    where
-      go : (r : ℕ) → checkReply tb ≡ r → (b : Bool) → ltb (length text) (length bytes) ≡ b → (r ≡ 0) × (length bytes ≤ length text)
-      go zero e true h = let y = ap (λ (o : WriteOutcome). o .wrote .reply) (sym (too-long e (ltb-true _ _ h))) ∙ z in absurd (omega arith)
-      go zero e false h = (refl, ltb-false _ _ h)
-      go (suc r) e b h = let y = ap (λ (o : WriteOutcome). o .wrote .reply) (table-refused (suc r) (sym e) (λ q. omega arith)) ∙ z in absurd (omega arith)

@@ -1,21 +1,22 @@
 -- A good table's words are told by the frames in them. Assumes nothing.
 use mathlib.Core.Path.{_≡_, refl, sym, ap, _∙_}
 use mathlib.Core.Bool.{Bool, true, false}
+use mathlib.Core.Logic.{inl, inr}
 use mathlib.Core.List.{List, [], _∷_, _++_}
-use Prim.Native.Nat.{ℕ, zero, suc, _+_, _-_, _/_, _%_, _≤_, _<_}
+use Prim.Native.Nat.{ℕ, zero, suc, _+_, _-_, _≤_, _<_}
 use native.Mathlib.Omega.{arith}
 use lib.Dec.{ltb, eqb}
 use lib.ListN.{length, getD}
 use lib.Seq.{ext-getD}
 use borrow.Author.Tests.{ltb-true, ltb-false, eqb-true, eqb-false}
-use Rattle.tables.specs.Layout.{agents, rows, countPlace, startPlace, rowPlace, tableWords}
+use Rattle.tables.specs.Layout.{agents, rows, startPlace, rowPlace, tableWords}
 use Rattle.tables.specs.Table.{goodTable}
 use Rattle.tables.specs.Frames.{Frame, opens, gives, ends, malformed}
+use Rattle.tables.proofs.WordPlaces.{Place, place-of}
 use Rattle.tables.proofs.Good.{no-count, no-register, no-such-row}
 use Rattle.reading.specs.Reader.{rowsNext}
 use Rattle.writing.specs.Writer.{fourAt, rowsFrom, agentsFrom, framesIn}
-use Rattle.writing.proofs.Loaded.{agentsNext}
-use Rattle.writing.proofs.Accepts.{rows-counted}
+use Rattle.writing.proofs.Counts.{agentsNext, rows-counted, agents-counted}
 
 -- the words of the first frame, and the frames after it
 abbrev wordsFirst : List Frame → List ℕ
@@ -28,16 +29,6 @@ wordsFirst (malformed w ∷ fs) = []
 abbrev past : List Frame → List Frame
 past [] = []
 past (f ∷ fs) = fs
-
-rows-passed : (tb : List ℕ) (c a i : ℕ) (gs : List Frame) → agentsNext (rowsFrom tb a i c ++ gs) ≡ agentsNext gs
-unfolding agentsNext rowsFrom
-rows-passed tb zero a i gs = refl
-rows-passed tb (suc c) a i gs = rows-passed tb c a (suc i) gs
-
-agents-counted : (tb : List ℕ) (n a : ℕ) → agentsNext (agentsFrom tb a n) ≡ n
-unfolding agentsNext agentsFrom
-agents-counted tb zero a = refl
-agents-counted tb (suc n) a = ap suc (rows-passed tb (rows tb a) a 0 (agentsFrom tb (suc a) n) ∙ agents-counted tb n (suc a))
 
 -- the words from place p on, one by one
 four-same : (tb other : List ℕ) (p : ℕ) → fourAt tb p ≡ fourAt other p → (w k : ℕ) → w < 4 → k ≡ p + w → getD tb k 0 ≡ getD other k 0
@@ -129,23 +120,11 @@ module _ (tb other : List ℕ) (long : length tb ≡ tableWords) (long′ : leng
       go true q false r = none (λ x. ltb-false _ _ r)
       go false q u r = let n : agents tb ≤ a = ltb-false _ _ q in none (λ x. absurd (omega (arith, n, x)))
 
-  word-same : (k : ℕ) → k < tableWords → getD tb k 0 ≡ getD other k 0
-  word-same k h = go (ltb k 1) refl (ltb k 17) refl (ltb k 81) refl
-    where
-      go : (t : Bool) → ltb k 1 ≡ t → (u : Bool) → ltb k 17 ≡ u → (v : Bool) → ltb k 81 ≡ v → getD tb k 0 ≡ getD other k 0
-      go true p u q v r = let z : k ≡ 0 = omega (arith, ltb-true k 1 p) in rw z agents-same
-      go false p true q v r =
-          let l = ltb-false k 1 p in
-          let m = ltb-true k 17 q in
-          let z : k ≡ countPlace (k - 1) = omega arith in
-          rw z (count-same (k - 1) (omega arith))
-      go false p false q true r =
-          let l = ltb-false k 17 q in
-          let m = ltb-true k 81 r in
-          register-same ((k - 17) / 4) ((k - 17) % 4) k (omega arith) (omega arith) (omega arith)
-      go false p false q false r =
-          let l = ltb-false k 81 r in
-          row-same ((k - 81) / 128) ((k - 81) / 4 % 32) ((k - 81) % 4) k (omega arith) (omega arith) (omega arith) (omega arith)
+  word-same : (k : ℕ) → Place k → getD tb k 0 ≡ getD other k 0
+  word-same k (inl e) = rw e agents-same
+  word-same k (inr (inl p)) = rw (p .is) (count-same (p .a) (p .agent))
+  word-same k (inr (inr (inl p))) = register-same (p .a) (p .w) k (p .agent) (p .register) (p .is)
+  word-same k (inr (inr (inr p))) = row-same (p .a) (p .i) (p .w) k (p .agent) (p .row) (p .word) (p .is)
 
   pub same-words : tb ≡ other
-  same-words = ext-getD 0 tb other (long ∙ sym long′) (λ k h. word-same k (omega arith))
+  same-words = ext-getD 0 tb other (long ∙ sym long′) (λ k h. word-same k (place-of k (omega arith)))

@@ -10,7 +10,7 @@ use Rattle.tables.specs.Layout.{agents, rows, startPlace, rowPlace}
 use Rattle.tables.specs.Lines.{endLine}
 use Rattle.digits.proofs.Writes.{run-then}
 use Rattle.writing.specs.Writer.{fourAt, frameLine, lineOf, linesOf, rowsFrom, agentsFrom, framesIn, textOf}
-use Rattle.writing.specs.Laws.{rowsOf, textLength}
+use Rattle.writing.specs.Laws.{rowTotal, textLength}
 use Rattle.writing.proofs.Lengths.{frame-length, rows-length, agent-lines, text-length, rows-grow}
 
 module _ (tb : List ℕ) where
@@ -27,7 +27,7 @@ module _ (tb : List ℕ) where
       ∙ rw (s, add-one i)
 
   -- the line of agent a and those of its rows, and then the agents that are left
-  pub agent-turn : (text opened after : List ℕ) (p a n c : ℕ) → a < n → c ≡ rows tb a → opened ≡ sets text p (frameLine 0x00 a (fourAt tb (startPlace a)))
+  agent-turn : (text opened after : List ℕ) (p a n c : ℕ) → a < n → c ≡ rows tb a → opened ≡ sets text p (frameLine 0x00 a (fourAt tb (startPlace a)))
       → after ≡ sets opened (p + 37) (linesOf (rowsFrom tb a 0 c))
       → sets after (p + 37 + 37 * c) (linesOf (agentsFrom tb (a + 1) (n - (a + 1)))) ≡ sets text p (linesOf (agentsFrom tb a (n - a)))
   agent-turn text opened after p a n c h k e g =
@@ -48,12 +48,12 @@ module _ (tb : List ℕ) where
 pub record Left (tb text₀ text : List ℕ) (n at a : ℕ) : Type 0 where
   pub within : a ≤ n
   pub all : n ≡ agents tb
-  pub place : at ≡ 37 * (a + rowsOf tb a)
+  pub place : at ≡ 37 * (a + rowTotal tb a)
   pub same : length text ≡ length text₀
   pub rest : sets text at (linesOf (agentsFrom tb a (n - a))) ≡ sets text₀ 0 (textOf tb)
 
 pub all-left : (tb text : List ℕ) (n : ℕ) → n ≡ agents tb → Left tb text text n 0 0
-unfolding textOf framesIn rowsOf
+unfolding textOf framesIn rowTotal
 all-left tb text n e = record {
   within = omega arith;
   all = e;
@@ -66,11 +66,11 @@ module _ {tb text₀ text : List ℕ} {n at a : ℕ} (t : Left tb text₀ text n
   module _ (room : length (textOf tb) ≤ length text₀) where
     -- there is room for an agent's lines, and for the end
     pub agent-room : a < n → at + 37 + 37 * rows tb a + 3 ≤ length text
-    unfolding textLength rowsOf
+    unfolding textLength rowTotal
     agent-room h =
         let e = text-length tb in
         let g = rows-grow tb (suc a) n h in
-        let q = ap (rowsOf tb) (t .all) in
+        let q = ap (rowTotal tb) (t .all) in
         let p = t .place in
         let k = t .all in
         let s = t .same in
@@ -82,7 +82,7 @@ module _ {tb text₀ text : List ℕ} {n at a : ℕ} (t : Left tb text₀ text n
         let e = text-length tb in
         let w = t .within in
         let same-agents : a ≡ agents tb = omega (arith, t .all) in
-        let q = ap (rowsOf tb) same-agents in
+        let q = ap (rowTotal tb) same-agents in
         let p = t .place in
         let s = t .same in
         omega arith
@@ -90,7 +90,7 @@ module _ {tb text₀ text : List ℕ} {n at a : ℕ} (t : Left tb text₀ text n
   pub next-left : (opened after : List ℕ) (c : ℕ) → a < n → c ≡ rows tb a → opened ≡ sets text at (frameLine 0x00 a (fourAt tb (startPlace a)))
       → after ≡ sets opened (at + 37) (linesOf (rowsFrom tb a 0 c)) → length opened ≡ length text → length after ≡ length opened
       → Left tb text₀ after n (at + 37 + 37 * c) (a + 1)
-  unfolding rowsOf
+  unfolding rowTotal
   next-left opened after c h k e g l m = record {
     within = omega arith;
     all = t .all;

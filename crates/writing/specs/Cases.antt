@@ -9,27 +9,23 @@ use Rattle.tables.specs.Layout.{rowOf}
 use Rattle.tables.specs.Rows.{rowReply, wellFormed, fieldsFit, namesOf, within}
 use Rattle.tables.specs.Table.{goodTable, goodAgent, goodRows, rowReplyAt, earlyBefore, lateBefore}
 use Rattle.tables.specs.Lines.{newline, endLine, same}
+use Rattle.tables.specs.Cases.{exampleTable}
 use Rattle.tables.specs.Calls.{checkReply}
-use Rattle.digits.specs.Hex.{hexChar, hexDigits, hexWords}
+use Rattle.digits.specs.Hex.{hexChar, hexDigits, hexWords, hexLine}
 use Rattle.writing.specs.Writer.{rowsFrom, agentsFrom, framesIn, frameLine, lineOf, linesOf, textOf}
 use Rattle.writing.specs.Calls.{bytesInto, writeInto}
-use Rattle.writing.specs.Laws.{rowsOf, textLength}
-
--- 01's example: SEND 0, 7 in the window 1 to 3 with 5 in register 0; RECV 1, 7 in the window 4 to 8
-table : List ℕ
-table =
-    (2 ∷ 1 ∷ 1 ∷ replicate 14 0) ++ (5 ∷ replicate 63 0)
-    ++ (0x20000000 ∷ 7 ∷ 1 ∷ 3 ∷ replicate 124 0)
-    ++ (0x30010000 ∷ 7 ∷ 4 ∷ 8 ∷ replicate 1916 0)
+use Rattle.writing.specs.Laws.{rowTotal, textLength}
 
 -- one agent of one row, which sets register 0
 shortest : List ℕ
 shortest = (1 ∷ 1 ∷ replicate 79 0) ++ (0 ∷ 0xABCDEF01 ∷ 0 ∷ 1 ∷ replicate 2044 0)
 
--- a line of 36 digits
-line : ℕ → List ℕ
-unfolding hexDigits hexChar
-line m = hexDigits 36 m ++ (newline ∷ [])
+-- 01, 00, 00000000, ABCDEF01, 00000000, 00000001 and a newline
+setsRegister : List ℕ
+setsRegister =
+    (48 ∷ 49 ∷ replicate 10 48)
+    ++ ((65 ∷ 66 ∷ 67 ∷ 68 ∷ 69 ∷ 70 ∷ 48 ∷ 49 ∷ [])
+    ++ (replicate 15 48 ++ (49 ∷ newline ∷ [])))
 
 -- the write of this table into a buffer of n bytes, each 1, replies r with the length m, and leaves these bytes
 leaves : (table : List ℕ) (n r m : ℕ) → List ℕ → Bool
@@ -40,29 +36,29 @@ leaves tb n r m bs =
 
 text : List ℕ
 text =
-    line 0x000000000005000000000000000000000000
-    ++ (line 0x010020000000000000070000000100000003
-    ++ (line 0x000100000000000000000000000000000000
-    ++ (line 0x010130010000000000070000000400000008
+    hexLine 36 0x000000000005000000000000000000000000
+    ++ (hexLine 36 0x010020000000000000070000000100000003
+    ++ (hexLine 36 0x000100000000000000000000000000000000
+    ++ (hexLine 36 0x010130010000000000070000000400000008
     ++ endLine)))
 
 cases : T (every (
     -- the text, and two bytes after it as they were
-    leaves table 153 0 151 (text ++ (1 ∷ 1 ∷ []))
+    leaves exampleTable 153 0 151 (text ++ (1 ∷ 1 ∷ []))
     -- words past the table's are not read
-    ∷ leaves (table ++ (9 ∷ [])) 151 0 151 text
+    ∷ leaves (exampleTable ++ (9 ∷ [])) 151 0 151 text
     -- a byte too few: the length needed, and no byte written
-    ∷ leaves table 150 20 151 (replicate 150 1)
-    ∷ leaves table 0 20 151 []
-    -- the shortest text; digits in upper case
-    ∷ leaves shortest 77 0 77 (line 0 ++ (line 0x010000000000ABCDEF010000000000000001 ++ endLine))
+    ∷ leaves exampleTable 150 20 151 (replicate 150 1)
+    ∷ leaves exampleTable 0 20 151 []
+    -- the shortest text, its row's line by its characters
+    ∷ leaves shortest 77 0 77 (hexLine 36 0 ++ (setsRegister ++ endLine))
     -- too few words, and a bad one after the last row
-    ∷ leaves (take 2128 table) 151 1 0 (replicate 151 1)
-    ∷ leaves (take 2128 table ++ (1 ∷ [])) 151 8 0 (replicate 151 1)
+    ∷ leaves (take 2128 exampleTable) 151 1 0 (replicate 151 1)
+    ∷ leaves (take 2128 exampleTable ++ (1 ∷ [])) 151 8 0 (replicate 151 1)
     -- bad words before a buffer too short
-    ∷ leaves (take 2128 table ++ (1 ∷ [])) 0 8 0 []
+    ∷ leaves (take 2128 exampleTable ++ (1 ∷ [])) 0 8 0 []
     ∷ []))
-unfolding leaves line text table shortest every
+unfolding leaves hexLine text exampleTable shortest setsRegister every hexDigits hexChar
 cases = tt
 
 -- n rows that set register 0 to 0, in the window 0 to 1
@@ -72,5 +68,5 @@ rowsOfSet (suc n) = 0 ∷ 0 ∷ 0 ∷ 1 ∷ rowsOfSet n
 
 -- 16 agents of 32 rows have the longest text
 longest : T (let tb = (16 ∷ replicate 16 32) ++ (replicate 64 0 ++ rowsOfSet 512) in eqb (checkReply tb) 0 && eqb (textLength tb) 19539)
-unfolding first every checkReply goodTable goodAgent goodRows rowReplyAt earlyBefore lateBefore rowReply wellFormed fieldsFit namesOf within rowOf zeroFrom allZero allBelow rowsOf textLength rowsOfSet
+unfolding first every checkReply goodTable goodAgent goodRows rowReplyAt earlyBefore lateBefore rowReply wellFormed fieldsFit namesOf within rowOf zeroFrom allZero allBelow rowTotal textLength rowsOfSet
 longest = tt

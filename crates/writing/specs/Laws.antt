@@ -11,19 +11,47 @@ use Rattle.reading.specs.Reader.{told}
 use Rattle.reading.specs.Calls.{readOutcome, readInto}
 use Rattle.writing.specs.Calls.{wrote, writeOutcome, writeInto}
 
+-- ---- how long a text is
+
+-- the rows of the first n agents together
+unfoldable pub rowTotal : List ℕ → ℕ → ℕ
+rowTotal tb zero = 0
+rowTotal tb (suc n) = rowTotal tb n + rows tb n
+
+-- 37 bytes for each agent and each row, and 3 for the end
+unfoldable pub textLength : List ℕ → ℕ
+textLength tb = 37 * (agents tb + rowTotal tb (agents tb)) + 3
+
+-- The length that is told is the table's alone, with 0 and with 20 ..
+abbrev pub LengthOfTable : Type 0
+LengthOfTable = (tb text : List ℕ) → checkReply tb ≡ 0 → writeInto tb text .wrote .length ≡ textLength (take tableWords tb)
+
+-- .. and lies between that of one agent of one row and that of 16 agents of 32.
+abbrev pub LengthBounds : Type 0
+LengthBounds = (tb text : List ℕ) → checkReply tb ≡ 0 → (77 ≤ writeInto tb text .wrote .length) × (writeInto tb text .wrote .length ≤ 19539)
+
+-- A buffer of just that length is enough.
+abbrev pub RoomIsEnough : Type 0
+RoomIsEnough = (tb text : List ℕ) → checkReply tb ≡ 0 → textLength (take tableWords tb) ≤ length text → writeInto tb text .wrote .reply ≡ 0
+
+-- ---- there and back
+
 -- the bytes that a write has put into the lent text
 abbrev pub bytesWritten : (table text : List ℕ) → List ℕ
 bytesWritten tb text = take (writeInto tb text .wrote .length) (writeInto tb text .text)
 
--- "Reading what was written gives the same words back": where `write` replies 0, `read` of the bytes that it wrote replies 0 and gives the table's words, whatever words it is lent
+-- "Reading what was written gives the same words back": of every table that `check` accepts, its words of 32 bits as lent words are, written into any buffer that has room for
+-- its text, `read` of the bytes that were written replies 0 and gives the table's words, whatever words it is lent.
 abbrev pub WrittenIsRead : Type 0
-WrittenIsRead = (tb text lent : List ℕ) → Small tb → writeInto tb text .wrote .reply ≡ 0 → tableWords ≤ length lent
+WrittenIsRead = (tb text lent : List ℕ) → checkReply tb ≡ 0 → Small (take tableWords tb) → textLength (take tableWords tb) ≤ length text → tableWords ≤ length lent
     → readInto (bytesWritten tb text) lent ≡ readOutcome (told 0 0) (take tableWords tb ++ drop tableWords lent)
 
 -- "any text the reader accepts is written out again byte for byte": from the words that the read gave, into any buffer that has room for it
 abbrev pub ReadIsWritten : Type 0
 ReadIsWritten = (text tb lent : List ℕ) → readInto text tb .told .reply ≡ 0 → length text ≤ length lent
     → writeInto (readInto text tb .table) lent ≡ writeOutcome (wrote 0 (length text)) (text ++ drop (length text) lent)
+
+-- ---- the tables that there are
 
 -- the words of a table that `check` accepts, each of 32 bits as lent words are
 abbrev pub Accepted : List ℕ → Type 0
@@ -32,29 +60,8 @@ Accepted tb = (length tb ≡ tableWords) × Small tb × (checkReply tb ≡ 0)
 -- some text reads to these words
 pub record ReadFrom (tb : List ℕ) : Type 0 where
   pub text : List ℕ
-  pub gives : readInto text (replicate tableWords 0) ≡ readOutcome (told 0 0) tb
+  pub reads : readInto text (replicate tableWords 0) ≡ readOutcome (told 0 0) tb
 
--- The words that `check` accepts are those that some text reads to.
+-- The words that `check` accepts are exactly those that some text reads to.
 abbrev pub AcceptedAreRead : Type 0
 AcceptedAreRead = (tb : List ℕ) → Accepted tb ↔ ReadFrom tb
-
--- the rows of the first n agents
-unfoldable pub rowsOf : List ℕ → ℕ → ℕ
-rowsOf tb zero = 0
-rowsOf tb (suc n) = rowsOf tb n + rows tb n
-
--- 37 bytes for each agent and each row, and 3 for the end
-unfoldable pub textLength : List ℕ → ℕ
-textLength tb = 37 * (agents tb + rowsOf tb (agents tb)) + 3
-
--- The length that is told is the table's alone, with 0 and with 20.
-abbrev pub LengthOfTable : Type 0
-LengthOfTable = (tb text : List ℕ) → checkReply tb ≡ 0 → writeInto tb text .wrote .length ≡ textLength (take tableWords tb)
-
--- A buffer of just that length is enough.
-abbrev pub RoomIsEnough : Type 0
-RoomIsEnough = (tb text : List ℕ) → checkReply tb ≡ 0 → textLength (take tableWords tb) ≤ length text → writeInto tb text .wrote .reply ≡ 0
-
--- The length lies between that of one agent of one row and that of 16 agents of 32
-abbrev pub LengthBounds : Type 0
-LengthBounds = (tb : List ℕ) → checkReply tb ≡ 0 → (77 ≤ textLength (take tableWords tb)) × (textLength (take tableWords tb) ≤ 19539)

@@ -1,4 +1,5 @@
 // The lines of a table, put into a lent buffer from a place on.
+use digits::BYTE_DIGITS;
 use digits::put_four;
 use digits::put_hex;
 use tables::frames::AGENT_AT;
@@ -6,6 +7,8 @@ use tables::frames::END_LINE;
 use tables::frames::FIRST_WORD;
 use tables::frames::FRAME_BYTES;
 use tables::frames::FRAME_DIGITS;
+use tables::frames::GIVES;
+use tables::frames::OPENS;
 use tables::layout::row_place;
 use tables::layout::start_place;
 ghost use mathlib.Core.Path.{_≡_};
@@ -21,8 +24,8 @@ fn put_line(text: &mut [u8], at: usize, kind: u32, a: usize, table: &[u32], p: u
     requires { ⌜ (at + 37 ≤ length (now text)) × (a < 16) × (p + 4 ≤ length (now table)) ⌝ }
     ensures { λ _. ⌜ now (text .exit) ≡ sets (now (text .entry)) at (frameLine kind a (fourAt (now (table .entry)) p)) ⌝ }
 {
-    put_hex(text, at, 2, kind);
-    put_hex(text, at + AGENT_AT, 2, a as u32);
+    put_hex(text, at, BYTE_DIGITS, kind);
+    put_hex(text, at + AGENT_AT, BYTE_DIGITS, a as u32);
     put_four(
         text,
         at + FIRST_WORD,
@@ -35,29 +38,29 @@ fn put_line(text: &mut [u8], at: usize, kind: u32, a: usize, table: &[u32], p: u
 }
 
 // The line that opens agent a, with its starting registers.
-pub fn put_agent(text: &mut [u8], at: usize, table: &[u32], a: usize)
+pub fn put_agent_line(text: &mut [u8], at: usize, table: &[u32], a: usize)
     requires { ⌜ (at + 37 ≤ length (now text)) × (length (now table) ≡ tableWords) × (a < 16) ⌝ }
-    ensures { λ _. ⌜ now (text .exit) ≡ sets (now (text .entry)) at (frameLine 0 a (fourAt (now (table .entry)) (startPlace a))) ⌝ }
+    ensures { λ _. ⌜ now (text .exit) ≡ sets (now (text .entry)) at (frameLine 0x00 a (fourAt (now (table .entry)) (startPlace a))) ⌝ }
 {
-    put_line(text, at, 0x00, a, table, start_place(a));
+    put_line(text, at, OPENS, a, table, start_place(a));
 }
 
 // The lines of the c rows of agent a.
-pub fn put_rows(text: &mut [u8], at: usize, table: &[u32], a: usize, c: usize)
+pub fn put_row_lines(text: &mut [u8], at: usize, table: &[u32], a: usize, c: usize)
     requires { ⌜ (at + 37 * c ≤ length (now text)) × (length (now table) ≡ tableWords) × (a < 16) × (c ≤ 32) ⌝ }
     ensures { λ _. ⌜ now (text .exit) ≡ sets (now (text .entry)) at (linesOf (rowsFrom (now (table .entry)) a 0 c)) ⌝ }
 {
     let mut p = at;
     let mut i = 0;
     while i < c {
-        put_line(text, p, 0x01, a, table, row_place(a, i));
+        put_line(text, p, GIVES, a, table, row_place(a, i));
         p += FRAME_BYTES;
         i += 1;
     }
 }
 
 // The end line.
-pub fn put_end(text: &mut [u8], at: usize)
+pub fn put_end_line(text: &mut [u8], at: usize)
     requires { ⌜ at + 3 ≤ length (now text) ⌝ }
     ensures { λ _. ⌜ now (text .exit) ≡ sets (now (text .entry)) at endLine ⌝ }
 {

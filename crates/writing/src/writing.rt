@@ -1,8 +1,8 @@
 // The writer. The table is checked and its text measured before the first byte is written.
 use crate::Wrote;
-use crate::lines::put_agent;
-use crate::lines::put_end;
-use crate::lines::put_rows;
+use crate::lines::put_agent_line;
+use crate::lines::put_end_line;
+use crate::lines::put_row_lines;
 use tables::checking::check;
 use tables::frames::END_BYTES;
 use tables::frames::FRAME_BYTES;
@@ -22,7 +22,7 @@ ghost use Rattle.writing.specs.Writer.{textOf};
 ghost use Rattle.writing.specs.Calls.{Written};
 
 // The length of a good table's text.
-fn text_length(table: &[u32]) -> usize
+fn text_length(table: &[u32]) -> u32
     requires { ⌜ (length (now table) ≡ tableWords) × (goodTable (now table) ≡ true) ⌝ }
     ensures { λ r. ⌜ (r ≡ length (textOf (now (table .entry)))) × (r ≤ 19539) ⌝ }
 {
@@ -33,7 +33,7 @@ fn text_length(table: &[u32]) -> usize
         lines += row_count(table, a) as usize;
         a += 1;
     }
-    FRAME_BYTES * lines + END_BYTES
+    (FRAME_BYTES * lines + END_BYTES) as u32
 }
 
 // The text of a good table, at the start of a buffer that has room for it.
@@ -46,13 +46,13 @@ fn put_text(table: &[u32], text: &mut [u8])
     let mut a = 0;
     while a < n {
         let c = row_count(table, a) as usize;
-        put_agent(text, at, table, a);
+        put_agent_line(text, at, table, a);
         at += FRAME_BYTES;
-        put_rows(text, at, table, a, c);
+        put_row_lines(text, at, table, a, c);
         at += FRAME_BYTES * c;
         a += 1;
     }
-    put_end(text, at);
+    put_end_line(text, at);
 }
 
 // Writes a table's text into the lent bytes: the reply, with the length of the text. They are written only where the table is accepted and its text has room.
@@ -65,15 +65,15 @@ pub fn write(table: &[u32], text: &mut [u8]) -> Wrote
     }
     let words = &table[..TABLE_WORDS];
     let length = text_length(words);
-    if text.len() < length {
+    if text.len() < length as usize {
         return Wrote {
             reply: TEXT_TOO_LONG,
-            length: length as u32,
+            length,
         };
     }
     put_text(words, text);
     Wrote {
         reply: ACCEPTED,
-        length: length as u32,
+        length,
     }
 }

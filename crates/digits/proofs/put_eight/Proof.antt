@@ -1,11 +1,8 @@
 -- `put_eight` meets its contract. Assumes nothing.
-use mathlib.Core.Path.{_≡_}
-use mathlib.Core.List.{List, [], _∷_}
-use Prim.Native.Nat.{ℕ, suc, _+_}
-use native.Mathlib.Numerals.{add-one}
+use mathlib.Core.List.{[], _∷_}
 use native.Mathlib.Omega.{arith}
-use lib.ListN.{set, length-set}
-use lib.Seq.{sets}
+use lib.ListN.{length-set}
+use Rattle.tables.proofs.Stored.{stored}
 use borrow.Author.Needs.{needs}
 use Rattle.digits.proofs.put_eight.Statement.{statement}
 use Rattle.digits.proofs.put_eight.Tie as tie
@@ -82,21 +79,8 @@ slice-write-out-8 c = simp length-set (omega arith)
 same-length : tie.Need-same-length
 same-length c = simp length-set
 
--- eight stores in a row
-stored : (l : List ℕ) (p a b c d e f g h : ℕ)
-    → set (set (set (set (set (set (set (set l p a) (p + 1) b) (p + 2) c) (p + 3) d) (p + 4) e) (p + 5) f) (p + 6) g) (p + 7) h
-    ≡ sets l p (a ∷ b ∷ c ∷ d ∷ e ∷ f ∷ g ∷ h ∷ [])
-stored l p a b c d e f g h =
-    let two : p + 2 ≡ suc (suc p) = omega arith in
-    let three : p + 3 ≡ suc (suc (suc p)) = omega arith in
-    let four : p + 4 ≡ suc (suc (suc (suc p))) = omega arith in
-    let five : p + 5 ≡ suc (suc (suc (suc (suc p)))) = omega arith in
-    let six : p + 6 ≡ suc (suc (suc (suc (suc (suc p))))) = omega arith in
-    let seven : p + 7 ≡ suc (suc (suc (suc (suc (suc (suc p)))))) = omega arith in
-    rw (add-one p, two, three, four, five, six, seven)
-
 returns : tie.Need-returns
-returns c = let g = c .args in stored (g .out .now) (g .at) _ _ _ _ _ _ _ _
+returns c = let g = c .args in stored _ (_ ∷ _ ∷ _ ∷ _ ∷ _ ∷ _ ∷ _ ∷ []) (g .out .now) (g .at)
 
 pub put-eight-spec : {M : Type 1} → statement M
 put-eight-spec =

@@ -1,10 +1,7 @@
-use mathlib.Core.Path.{_≡_}
-use mathlib.Core.List.{List, [], _∷_}
-use Prim.Native.Nat.{ℕ, suc, _+_}
-use native.Mathlib.Numerals.{add-one}
+use mathlib.Core.List.{[], _∷_}
 use native.Mathlib.Omega.{arith}
-use lib.ListN.{set, length-set}
-use lib.Seq.{sets}
+use lib.ListN.{length-set}
+use Rattle.tables.proofs.Stored.{stored}
 use borrow.Author.Needs.{needs}
 use Rattle.reading.proofs.loading.put_words.Statement.{statement}
 use Rattle.reading.proofs.loading.put_words.Tie as tie
@@ -45,15 +42,8 @@ slice-write-table-4 c = simp length-set (omega arith)
 same-length : tie.Need-same-length
 same-length c = search needs
 
--- four stores in a row
-stored : (l : List ℕ) (p w x y z : ℕ) → set (set (set (set l p w) (p + 1) x) (p + 2) y) (p + 3) z ≡ sets l p (w ∷ x ∷ y ∷ z ∷ [])
-stored l p w x y z =
-    let two : p + 2 ≡ suc (suc p) = omega arith in
-    let three : p + 3 ≡ suc (suc (suc p)) = omega arith in
-    rw (add-one p, two, three)
-
 returns : tie.Need-returns
-returns c = let g = c .args in stored (g .table .now) (g .place) (g .w) (g .x) (g .y) (g .z)
+returns c = let g = c .args in stored (g .w) (g .x ∷ g .y ∷ g .z ∷ []) (g .table .now) (g .place)
 
 pub put-words-spec : {M : Type 1} → statement M
 put-words-spec =

@@ -15,7 +15,7 @@ abbrev μ-loop : tie.MeasureT-loop
 μ-loop table text₀ n at₀ a₀ text at a = n - a
 
 returns : tie.Need-returns Inv-loop μ-loop
-returns c = none-left (c .before .before .before .before .before .loop .inv) (c .before .before .before .before .loop-test .left) _ (c .before .before .put-end .ensures)
+returns c = none-left (c .before .before .before .before .before .loop .inv) (c .before .before .before .before .loop-test .left) _ (c .before .before .put-end-line .ensures)
 
 agent-count-requires : tie.Need-agent-count-requires Inv-loop μ-loop
 agent-count-requires c κs = search needs
@@ -32,8 +32,8 @@ row-count-requires c κs = let t = c .before .loop .inv in let f = few _ (c .bef
 cast-c : tie.Need-cast-c Inv-loop μ-loop
 cast-c c = search needs
 
-put-agent-requires : tie.Need-put-agent-requires Inv-loop μ-loop
-put-agent-requires c κs =
+put-agent-line-requires : tie.Need-put-agent-line-requires Inv-loop μ-loop
+put-agent-line-requires c κs =
     let t = c .before .before .before .loop .inv in
     let f = few _ (c .before .before .before .before .before .before .before .pre .1) in
     let e = t .all in
@@ -44,15 +44,15 @@ add-at : tie.Need-add-at Inv-loop μ-loop
 add-at c =
     let r = agent-room (c .before .before .before .before .before .before .loop .inv) (c .before .before .before .before .before .before .before .before .before .before .pre .2) (c .before .before .before .before .before .loop-test .taken) in search needs
 
-put-rows-requires : tie.Need-put-rows-requires Inv-loop μ-loop
-put-rows-requires c κs =
+put-row-lines-requires : tie.Need-put-row-lines-requires Inv-loop μ-loop
+put-row-lines-requires c κs =
     let t = c .before .before .before .before .before .before .before .loop .inv in
     let e = t .all in
     let h = c .before .before .before .before .before .before .loop-test .taken in
     let f = few _ (c .before .before .before .before .before .before .before .before .before .before .before .pre .1) in
     let m = few-rows _ (c .before .before .before .before .before .before .before .before .before .before .before .pre .1) (c .before .before .before .before .before .before .before .loop .a) (omega arith) in
     let k = c .before .before .before .before .before .row-count .ensures in
-    let l = c .before .before .before .put-agent .kept .0 in
+    let l = c .before .before .before .put-agent-line .kept .0 in
     let r = agent-room t (c .before .before .before .before .before .before .before .before .before .before .before .pre .2) h in
     (omega arith, c .before .before .before .before .before .before .before .before .before .before .before .pre .0, omega arith, omega arith)
 
@@ -81,15 +81,15 @@ loop-less c = search needs
 
 loop-again : tie.Need-loop-again Inv-loop μ-loop
 loop-again c =
-    let o = c .before .before .before .before .before .before .put-agent in
-    let r = c .before .before .put-rows in
+    let o = c .before .before .before .before .before .before .put-agent-line in
+    let r = c .before .before .put-row-lines in
     next-left (c .before .before .before .before .before .before .before .before .before .before .loop .inv) _ _ _ (c .before .before .before .before .before .before .before .before .before .loop-test .taken) (c .before .before .before .before .before .before .before .before .row-count .ensures) (o .ensures) (r .ensures) (o .kept .0) (r .kept .0)
 
-put-end-requires : tie.Need-put-end-requires Inv-loop μ-loop
-put-end-requires c κs = end-room (c .before .before .loop .inv) (c .before .before .before .before .before .before .pre .2) (c .before .loop-test .left)
+put-end-line-requires : tie.Need-put-end-line-requires Inv-loop μ-loop
+put-end-line-requires c κs = end-room (c .before .before .loop .inv) (c .before .before .before .before .before .before .pre .2) (c .before .loop-test .left)
 
 same-length : tie.Need-same-length Inv-loop μ-loop
-same-length c = c .before .before .put-end .kept .0 ∙ c .before .before .before .before .before .loop .inv .same
+same-length c = c .before .before .put-end-line .kept .0 ∙ c .before .before .before .before .before .loop .inv .same
 
 pub put-text-spec : {M : Type 1} → statement M
 put-text-spec =
@@ -102,14 +102,14 @@ put-text-spec =
     loop-holds
     row-count-requires
     cast-c
-    put-agent-requires
+    put-agent-line-requires
     add-at
-    put-rows-requires
+    put-row-lines-requires
     mul-at
     add-at-2
     add-a
     loop-less
     loop-again
-    put-end-requires
+    put-end-line-requires
     same-length
     returns)

@@ -42,17 +42,14 @@ slice-aggregate-words c = sym (checked-words _ (sym (c .before .before .check .e
 text-length-requires : tie.Need-text-length-requires
 text-length-requires c κs = checked-words _ (sym (c .before .before .check .ensures) ∙ c .before .if1 .left)
 
-cast-t9 : tie.Need-cast-t9
-cast-t9 c = search needs
+cast-if2 : tie.Need-cast-if2
+cast-if2 c = search needs
 
 put-text-requires : tie.Need-put-text-requires
 put-text-requires c κs =
     let w = checked-words _ (sym (c .before .before .before .before .before .check .ensures) ∙ c .before .before .before .before .if1 .left) in
     let e = c .before .before .text-length .ensures .0 in
     (w .0, w .1, omega (arith, c .before .if2 .left))
-
-cast-t13 : tie.Need-cast-t13
-cast-t13 c = search needs
 
 same-length : tie.Need-same-length
 same-length c = search needs
@@ -65,9 +62,8 @@ write-spec =
     returns
     slice-aggregate-words
     text-length-requires
-    cast-t9
+    cast-if2
     returns-2
     put-text-requires
-    cast-t13
     same-length
     returns-3)

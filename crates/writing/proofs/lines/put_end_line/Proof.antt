@@ -1,21 +1,14 @@
--- `put_end` meets its contract. Assumes nothing.
-use mathlib.Core.Path.{_≡_}
-use mathlib.Core.List.{List, [], _∷_}
-use Prim.Native.Nat.{ℕ, suc, _+_}
-use native.Mathlib.Numerals.{add-one}
+-- `put_end_line` meets its contract. Assumes nothing.
+use mathlib.Core.List.{[], _∷_}
 use native.Mathlib.Omega.{arith}
-use lib.ListN.{set, length-set}
-use lib.Seq.{sets}
+use lib.ListN.{length-set}
+use Rattle.tables.proofs.Stored.{stored}
 use borrow.Author.Needs.{needs}
-use Rattle.writing.proofs.lines.put_end.Statement.{statement}
-use Rattle.writing.proofs.lines.put_end.Tie as tie
-
--- three stores in a row
-stored : (l : List ℕ) (p x y z : ℕ) → set (set (set l p x) (p + 1) y) (p + 2) z ≡ sets l p (x ∷ y ∷ z ∷ [])
-stored l p x y z = let two : p + 2 ≡ suc (suc p) = omega arith in rw (add-one p, two)
+use Rattle.writing.proofs.lines.put_end_line.Statement.{statement}
+use Rattle.writing.proofs.lines.put_end_line.Tie as tie
 
 returns : tie.Need-returns
-returns c = let g = c .args in stored (g .text .now) (g .at) _ _ _
+returns c = let g = c .args in stored _ (_ ∷ _ ∷ []) (g .text .now) (g .at)
 
 array-read-text : tie.Need-array-read-text
 array-read-text c = search needs
@@ -44,8 +37,8 @@ slice-write-text-3 c = simp length-set (omega arith)
 same-length : tie.Need-same-length
 same-length c = search needs
 
-pub put-end-spec : {M : Type 1} → statement M
-put-end-spec =
+pub put-end-line-spec : {M : Type 1} → statement M
+put-end-line-spec =
     tie.close
     (tie.spec
     array-read-text
