@@ -9,6 +9,7 @@
 
 #![no_std]
 
+mod digits;
 mod reader;
 mod steps;
 mod table;

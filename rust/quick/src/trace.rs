@@ -1,13 +1,17 @@
 //! The trace program's work.
 
+use crate::digits::digits;
 use crate::reader::{digit_line, line_refusal, read};
 use crate::reply::*;
 use crate::steps::{take, Lates, State};
 use crate::table::Table;
 use crate::{STATE_WORDS, TABLE_WORDS};
 
-/// The longest output: 512 steps of 47 bytes and the last line of 9.
-pub const OUTPUT_BYTES: usize = 512 * 47 + 9;
+/// Bytes of a step's line and of the last line.
+const STEP_LINE: usize = 47;
+const LAST_LINE: usize = 9;
+/// The longest output: 512 steps and the last line.
+pub const OUTPUT_BYTES: usize = 512 * STEP_LINE + LAST_LINE;
 const INPUT_BYTES: usize = 65_536;
 /// Bytes of a choice line, and its first byte.
 const CHOICE_LINE: usize = 13;
@@ -20,30 +24,27 @@ struct Writer<'a> {
 }
 
 impl Writer<'_> {
-    fn line(&mut self, bytes: &[u8]) {
-        const DIGITS: &[u8; 16] = b"0123456789ABCDEF";
-        let room = &mut self.output[self.length..][..2 * bytes.len() + 1];
-        let (pairs, last) = room.as_chunks_mut();
-        for (pair, &byte) in pairs.iter_mut().zip(bytes) {
-            *pair = [DIGITS[usize::from(byte >> 4)], DIGITS[usize::from(byte & 15)]];
-        }
-        last[0] = b'\n';
-        self.length += 2 * bytes.len() + 1;
+    fn room(&mut self, bytes: usize) -> &mut [u8] {
+        let room = &mut self.output[self.length..][..bytes];
+        self.length += bytes;
+        room
     }
 
     fn step(&mut self, agent: u32, time: u32, (position, registers): (u32, [u32; 4])) {
-        let mut bytes = [0; 23];
-        bytes[..3].copy_from_slice(&[0x03, agent as u8, position as u8]);
-        bytes[3..7].copy_from_slice(&time.to_be_bytes());
-        for (room, register) in bytes[7..].chunks_exact_mut(4).zip(registers) {
-            room.copy_from_slice(&register.to_be_bytes());
-        }
-        self.line(&bytes);
+        let [.., agent_high, agent_low] = digits(agent);
+        let [.., position_high, position_low] = digits(position);
+        let (head, rest) = self.room(STEP_LINE).split_first_chunk_mut().unwrap();
+        let (numbers, newline) = rest.as_chunks_mut();
+        *head = [b'0', b'3', agent_high, agent_low, position_high, position_low];
+        numbers[0] = digits(time);
+        numbers[1..].copy_from_slice(&registers.map(digits));
+        newline[0] = b'\n';
     }
 
     fn end(mut self, reply: u32, told: u32) -> usize {
-        let [.., high, low] = told.to_be_bytes();
-        self.line(&[0xFE, reply as u8, high, low]);
+        let [.., high, low] = digits(reply);
+        let [.., a, b, c, d] = digits(told);
+        self.room(LAST_LINE).copy_from_slice(&[b'F', b'E', high, low, a, b, c, d, b'\n']);
         self.length
     }
 }

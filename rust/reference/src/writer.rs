@@ -5,7 +5,7 @@ use crate::table::{Row, Table};
 use crate::TABLE_WORDS;
 
 /// The text of a table.
-pub fn text_of_table(table: &Table) -> String {
+fn text_of_table(table: &Table) -> String {
     let mut text = String::new();
     for (a, agent) in table.agents.iter().enumerate() {
         let [r0, r1, r2, r3] = agent.registers;
