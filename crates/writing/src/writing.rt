@@ -24,7 +24,7 @@ ghost use Rattle.writing.specs.Calls.{Written};
 // The length of a good table's text.
 fn text_length(table: &[u32]) -> u32
     requires { ⌜ (length (now table) ≡ tableWords) × (goodTable (now table) ≡ true) ⌝ }
-    ensures { λ r. ⌜ (r ≡ length (textOf (now (table .entry)))) × (r ≤ 19539) ⌝ }
+    ensures { λ r. ⌜ r ≡ length (textOf (now (table .entry))) ⌝ }
 {
     let n = agent_count(table) as usize;
     let mut lines = n;

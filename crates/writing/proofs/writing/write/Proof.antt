@@ -21,7 +21,7 @@ returns c = let g = c .before .before .before .before .args in table-refused (g 
 returns-2 : tie.Need-returns-2
 returns-2 c =
     let g = c .before .before .before .before .before .before .before .args in
-    let e = c .before .text-length .ensures .0 in
+    let e = c .before .text-length .ensures in
     let ok = sym (c .before .before .before .before .check .ensures) ∙ c .before .before .before .if1 .left in
     ap (λ (n : ℕ). writeOutcome (wrote 20 n) (g .text .now)) e ∙ sym (too-long (g .table .now) (g .text .now) ok (omega (arith, c .if2 .taken)))
 
@@ -29,7 +29,7 @@ returns-3 : tie.Need-returns-3
 returns-3 c =
     let g = c .before .before .before .before .before .before .before .before .before .before .before .args in
     let bs = textOf (take tableWords (g .table .now)) in
-    let e = c .before .before .before .before .before .text-length .ensures .0 in
+    let e = c .before .before .before .before .before .text-length .ensures in
     let ok = sym (c .before .before .before .before .before .before .before .before .check .ensures) ∙ c .before .before .before .before .before .before .before .if1 .left in
     let room : length bs ≤ length (g .text .now) = omega (arith, c .before .before .before .before .if2 .left) in
     ap (λ (n : ℕ). writeOutcome (wrote 0 n) (c .before .before .put-text .last .1 .0)) e
@@ -48,7 +48,7 @@ cast-if2 c = search needs
 put-text-requires : tie.Need-put-text-requires
 put-text-requires c κs =
     let w = checked-words _ (sym (c .before .before .before .before .before .check .ensures) ∙ c .before .before .before .before .if1 .left) in
-    let e = c .before .before .text-length .ensures .0 in
+    let e = c .before .before .text-length .ensures in
     (w .0, w .1, omega (arith, c .before .if2 .left))
 
 same-length : tie.Need-same-length
