@@ -20,7 +20,8 @@ use Rattle.choices.specs.Messages.{best}
 use Rattle.choices.specs.Effect.{after, receive, goTo, put}
 use Rattle.choices.specs.Fit.{current}
 use Rattle.choices.specs.Step.{accepted, withAgent, withSent}
-use Rattle.choices.proofs.Lists.{getD-sets-other, part-same, part-sets}
+use Rattle.tables.proofs.Stored.{getD-sets-other}
+use Rattle.choices.proofs.Lists.{part-same, part-sets}
 
 -- ---- a row's effect on its agent
 

@@ -9,7 +9,8 @@ use native.Mathlib.Omega.{arith}
 use lib.ListN.{length, take, drop, getD, set, length-append, length-take, length-drop, length-set, List·getD-append}
 use lib.Seq.{sets, length-sets, getD-take, getD-drop, getD-set-same, getD-set-other, ext-getD, drop-cons, set-at, append-snoc, getD-at, paste, paste-suc, take-all}
 use Rattle.choices.specs.Registers.{around, listed, register, withRegs}
-use Rattle.choices.proofs.Lists.{getD-right, getD-part, getD-sets-other}
+use Rattle.tables.proofs.Stored.{getD-sets-other}
+use Rattle.choices.proofs.Lists.{getD-right, getD-part}
 
 -- ---- a list given by its elements
 

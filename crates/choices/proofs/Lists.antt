@@ -1,4 +1,4 @@
--- Reads after stores, of one word and of several, and parts of a list told word by word. Assumes nothing.
+-- Parts of a list, told word by word. Assumes nothing.
 use mathlib.Core.Path.{_≡_, refl, sym, _∙_}
 use mathlib.Core.Logic.{_≢_}
 use mathlib.Core.List.{List, [], _∷_, _++_}
@@ -7,25 +7,7 @@ use native.Mathlib.Nat.{not-suc-le-zero, le-of-suc-le-suc, sub-zero, suc-sub-suc
 use native.Mathlib.Omega.{arith}
 use lib.ListN.{length, set, take, drop, getD, length-set, length-take, length-drop}
 use lib.Seq.{sets, length-sets, getD-set-same, getD-set-other, getD-take, getD-drop, ext-getD}
-
--- ---- several words stored from a place on
-
--- a word at none of the places stored to
-pub getD-sets-other : (vs l : List ℕ) (p j : ℕ) → ((i : ℕ) → i < length vs → j ≢ p + i) → getD (sets l p vs) j 0 ≡ getD l j 0
-getD-sets-other [] l p j out = refl
-getD-sets-other (v ∷ vs) l p j out =
-    getD-sets-other vs (set l p v) (suc p) j (λ i h e. out (suc i) (omega arith) (omega arith))
-    ∙ getD-set-other l p j v 0 (λ e. out 0 (omega arith) (omega arith))
-
--- the word at the i-th of the places stored to
-pub getD-sets-same : (vs l : List ℕ) (p i : ℕ) → i < length vs → p + length vs ≤ length l → getD (sets l p vs) (p + i) 0 ≡ getD vs i 0
-getD-sets-same [] l p i h fit = absurd (not-suc-le-zero h)
-getD-sets-same (v ∷ vs) l p zero h fit =
-    let e : p + 0 ≡ p = omega arith in
-    rw e (getD-sets-other vs (set l p v) (suc p) p (λ i k d. omega arith) ∙ getD-set-same l p v 0 (omega arith))
-getD-sets-same (v ∷ vs) l p (suc i) h fit =
-    let e : p + suc i ≡ suc p + i = omega arith in
-    rw e (getD-sets-same vs (set l p v) (suc p) i (le-of-suc-le-suc h) (simp length-set (omega arith)))
+use Rattle.tables.proofs.Stored.{getD-sets-same}
 
 -- ---- parts
 

@@ -10,7 +10,8 @@ use Rattle.tables.specs.Small.{Small}
 use Rattle.tables.specs.Lines.{newline, lines, allHex, field, digitsLine}
 use Rattle.tables.proofs.Tests.{and-right}
 use Rattle.digits.specs.Hex.{hexDigits, hexWords}
-use Rattle.digits.proofs.Writes.{hexDigits-length, hexWords-length, four-of}
+use Rattle.tables.proofs.Stored.{four-by}
+use Rattle.digits.proofs.Writes.{hexDigits-length, hexWords-length}
 use Rattle.digits.proofs.Back.{hex-append, digits-hex, words-hex, digits-field, digits-past, word-field, made-line, line-first}
 use Rattle.traces.specs.Output.{stepLine, lastLine}
 use Rattle.traces.proofs.Steps.{stepLine-length, lastLine-length}
@@ -98,15 +99,11 @@ line-shows : (s : Step) → Plain s → stepIn (stepLine (s .agent) (s .time) (s
 unfolding stepIn
 line-shows s h =
     let at = register-at (s .agent) (s .time) (s .left .pos) (s .left .regs) (h .four) (h .small) in
-    let e0 = at 0 14 (omega arith) (omega arith) in
-    let e1 = at 1 22 (omega arith) (omega arith) in
-    let e2 = at 2 30 (omega arith) (omega arith) in
-    let e3 = at 3 38 (omega arith) (omega arith) in
+    let regs = four-by (s .left .regs) (h .four) (at 0 14 (omega arith) (omega arith)) (at 1 22 (omega arith) (omega arith)) (at 2 30 (omega arith) (omega arith)) (at 3 38 (omega arith) (omega arith)) in
     let a = agent-at (s .agent) (s .time) (s .left .pos) (s .left .regs) (h .agent) in
     let t = time-at (s .agent) (s .time) (s .left .pos) (s .left .regs) (h .time) in
     let p = position-at (s .agent) (s .time) (s .left .pos) (s .left .regs) (h .position) in
-    (λ i. step (a i) (t i) (record { pos = p i; regs = e0 i ∷ e1 i ∷ e2 i ∷ e3 i ∷ [] }))
-    ∙ ap (λ (l : List ℕ). step (s .agent) (s .time) (record { pos = s .left .pos; regs = l })) (sym (four-of (s .left .regs) (h .four)))
+    λ i. step (a i) (t i) (record { pos = p i; regs = regs i })
 
 -- ---- the last line
 

@@ -30,7 +30,7 @@ use Rattle.traces.specs.Input.{longestInput, tableText, choiceLines, badChoiceO
 use Rattle.traces.specs.Output.{Traced, traced, after, stepLine, lastLine, traceFrom, traceOf}
 use Rattle.traces.specs.Calls.{longestOutput, traceInto}
 use Rattle.traces.proofs.Steps.{trace-go, trace-stop}
-use Rattle.reading.proofs.Outcomes.{read-told}
+use Rattle.reading.proofs.Outcomes.{blank, blank-length, read-told}
 use Rattle.reading.proofs.ReadSmall.{words-small}
 use Rattle.traces.proofs.Parts.{trace-long, trace-refused, trace-faulty, trace-steps}
 use Rattle.demands.specs.Demand2.{Table, Fitting}
@@ -216,7 +216,7 @@ module _ (input out : List ℕ) where
   by-choices room short h zero e = all-steps (record {
     room = room;
     short = short;
-    table = ap (λ (q : Told). q .reply) (read-told (tableText input) (replicate tableWords 0) (omega (arith, length-replicate {A = ℕ} tableWords 0))) ∙ h;
+    table = ap (λ (q : Told). q .reply) (read-told (tableText input) blank (omega (arith, blank-length))) ∙ h;
     choices = e;
   })
   by-choices room short h (suc r) e = one-line room _ _ _ (trace-faulty input short h (λ z. omega arith))

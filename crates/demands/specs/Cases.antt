@@ -16,7 +16,7 @@ use Rattle.choices.specs.Effect.{after, receive}
 use Rattle.choices.specs.Fit.{inTime, unfinished}
 use Rattle.choices.specs.Step.{choiceReply, stuck, canGo, accepted, withAgent, withSent}
 use Rattle.executive.specs.Calls.{runRefusal}
-use Rattle.digits.specs.Hex.{hexChar, hexDigits}
+use Rattle.digits.specs.Hex.{hexChar, hexDigits, hexLine}
 use Rattle.demands.specs.Steps.{step, stepsFrom, comesTo, passedInRun}
 use Rattle.demands.specs.Traces.{isStepLine, stepIn, stepsShown}
 
@@ -42,12 +42,11 @@ example = record { sends = refl; receives = refl; cut = refl; odd = refl }
 
 -- the output that 01 gives
 output : List ℕ
-unfolding hexDigits hexChar
+unfolding hexLine hexDigits hexChar
 output =
-    hexDigits 46 0x0300010000000300000005000000000000000000000000
-    ++ (newline ∷ hexDigits 46 0x0301010000000400000000000000050000000000000000
-    ++ (newline ∷ hexDigits 8 0xFE000002
-    ++ (newline ∷ [])))
+    hexLine 46 0x0300010000000300000005000000000000000000000000
+    ++ (hexLine 46 0x0301010000000400000000000000050000000000000000
+    ++ hexLine 8 0xFE000002)
 
 shown-steps : stepsShown (lines output) ≡ step 0 3 (sender 1) ∷ step 1 4 (at 1 (0 ∷ 5 ∷ 0 ∷ 0 ∷ [])) ∷ []
 unfolding output lines stepsShown isStepLine stepIn digitsLine allHex same field number hexDigit

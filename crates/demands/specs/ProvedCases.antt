@@ -22,13 +22,13 @@ use Rattle.choices.specs.Fit.{inTime, unfinished}
 use Rattle.choices.specs.Step.{choiceReply, stuck, canGo, accepted, withAgent, withSent}
 use Rattle.executive.specs.Run.{runFrom}
 use Rattle.executive.specs.Calls.{runInto, runRefusal}
-use Rattle.digits.specs.Hex.{hexChar, hexDigits}
+use Rattle.digits.specs.Hex.{hexChar, hexDigits, hexLine}
 
 -- a text of lines, 36 digits each, from the numbers that they stand for, with its end line
 text : List ℕ → List ℕ
-unfolding hexDigits hexChar
+unfolding hexLine hexDigits hexChar
 text [] = endLine
-text (m ∷ ms) = hexDigits 36 m ++ (newline ∷ text ms)
+text (m ∷ ms) = hexLine 36 m ++ text ms
 
 -- A table's lines with the choices of a run, its reply, its count and each agent's position and registers after it; or lines with the reply and the line told.
 pub data Case : Type 0 where

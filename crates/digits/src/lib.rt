@@ -12,11 +12,11 @@ pub const BYTE_DIGITS: usize = 2;
 
 const WORD_DIGITS: usize = 8;
 
-const SECOND_WORD: usize = WORD_DIGITS;
+const SECOND_OF_FOUR: usize = WORD_DIGITS;
 
-const THIRD_WORD: usize = SECOND_WORD + WORD_DIGITS;
+const THIRD_OF_FOUR: usize = SECOND_OF_FOUR + WORD_DIGITS;
 
-const FOURTH_WORD: usize = THIRD_WORD + WORD_DIGITS;
+const FOURTH_OF_FOUR: usize = THIRD_OF_FOUR + WORD_DIGITS;
 
 // The upper-case hexadecimal digit of a number below 16.
 fn hex_char(d: u32) -> u8
@@ -78,7 +78,7 @@ pub fn put_four(out: &mut [u8], at: usize, w: u32, x: u32, y: u32, z: u32)
     ensures { λ _. ⌜ now (out .exit) ≡ sets (now (out .entry)) at (hexWords (w ∷ x ∷ y ∷ z ∷ [])) ⌝ }
 {
     put_word(out, at, w);
-    put_word(out, at + SECOND_WORD, x);
-    put_word(out, at + THIRD_WORD, y);
-    put_word(out, at + FOURTH_WORD, z);
+    put_word(out, at + SECOND_OF_FOUR, x);
+    put_word(out, at + THIRD_OF_FOUR, y);
+    put_word(out, at + FOURTH_OF_FOUR, z);
 }

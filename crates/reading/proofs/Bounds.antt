@@ -22,36 +22,36 @@ use Rattle.reading.proofs.Accepted.{Placed, placed-first, open-on, give
 use Rattle.reading.proofs.RowsRead.{good-row, bad-row}
 use Rattle.reading.proofs.Outcomes.{misplaced, in-places, short-table, read-told}
 
-pub record Small (t : Told) : Type 0 where
+pub record SmallTold (t : Told) : Type 0 where
   pub reply : t .reply ≤ 19
   pub line : t .line ≤ 562
 
-small : (r n : ℕ) → r ≤ 19 → n ≤ 562 → Small (told r n)
+small : (r n : ℕ) → r ≤ 19 → n ≤ 562 → SmallTold (told r n)
 small r n h k = record { reply = h; line = k }
 
-place-small : (fs : List Frame) (n a i : ℕ) → a ≤ 16 → i ≤ 32 → n ≤ 33 * a + i + 1 → Small (inPlace n a i fs)
+place-small : (fs : List Frame) (n a i : ℕ) → a ≤ 16 → i ≤ 32 → n ≤ 33 * a + i + 1 → SmallTold (inPlace n a i fs)
 unfolding inPlace first
 place-small [] n a i h k l = small 3 n (omega arith) (omega arith)
 place-small (malformed w ∷ fs) n a i h k l = small (faultReply w) n (fault-small w) (omega arith)
 place-small (opens b ws ∷ fs) n a i h k l = go (mayOpen b a i) refl (λ m. place-small fs (n + 1) (a + 1) 0 (omega arith) (omega arith) (omega arith))
   where
-    go : (t : Bool) → mayOpen b a i ≡ t → (a + 1 ≤ 16 → Small (inPlace (n + 1) (a + 1) 0 fs)) → Small (inPlace n a i (opens b ws ∷ fs))
-    go true e rec = subst Small (sym (place-open n a i b ws fs e)) (rec (omega (arith, open-room b a i e)))
-    go false e rec = subst Small (sym (place-open-not n a i b ws fs e)) (small 3 n (omega arith) (omega arith))
+    go : (t : Bool) → mayOpen b a i ≡ t → (a + 1 ≤ 16 → SmallTold (inPlace (n + 1) (a + 1) 0 fs)) → SmallTold (inPlace n a i (opens b ws ∷ fs))
+    go true e rec = subst SmallTold (sym (place-open n a i b ws fs e)) (rec (omega (arith, open-room b a i e)))
+    go false e rec = subst SmallTold (sym (place-open-not n a i b ws fs e)) (small 3 n (omega arith) (omega arith))
 place-small (gives b ws ∷ fs) n a i h k l = go (mayGive b a i) refl (λ m. place-small fs (n + 1) a (i + 1) h m (omega arith))
   where
-    go : (t : Bool) → mayGive b a i ≡ t → (i + 1 ≤ 32 → Small (inPlace (n + 1) a (i + 1) fs)) → Small (inPlace n a i (gives b ws ∷ fs))
-    go true e rec = subst Small (sym (place-give n a i b ws fs e)) (rec (omega (arith, give-room b a i e)))
-    go false e rec = subst Small (sym (place-give-not n a i b ws fs e)) (small 3 n (omega arith) (omega arith))
+    go : (t : Bool) → mayGive b a i ≡ t → (i + 1 ≤ 32 → SmallTold (inPlace (n + 1) a (i + 1) fs)) → SmallTold (inPlace n a i (gives b ws ∷ fs))
+    go true e rec = subst SmallTold (sym (place-give n a i b ws fs e)) (rec (omega (arith, give-room b a i e)))
+    go false e rec = subst SmallTold (sym (place-give-not n a i b ws fs e)) (small 3 n (omega arith) (omega arith))
 place-small (ends ∷ fs) n a i h k l = go (eqb (first (endRules a i)) 0) refl
   where
-    past : (o : Bool) → Small (toldBy ((not o ⇒ 3) ∷ []) (n + 1))
+    past : (o : Bool) → SmallTold (toldBy ((not o ⇒ 3) ∷ []) (n + 1))
     past true = small 0 0 (omega arith) (omega arith)
     past false = small 3 (n + 1) (omega arith) (omega arith)
 
-    go : (t : Bool) → eqb (first (endRules a i)) 0 ≡ t → Small (inPlace n a i (ends ∷ fs))
-    go true e = subst Small (sym (place-end n a i fs e)) (past (noneLeft fs))
-    go false e = subst Small (sym (place-end-not n a i fs e)) (small 3 n (omega arith) (omega arith))
+    go : (t : Bool) → eqb (first (endRules a i)) 0 ≡ t → SmallTold (inPlace n a i (ends ∷ fs))
+    go true e = subst SmallTold (sym (place-end n a i fs e)) (past (noneLeft fs))
+    go false e = subst SmallTold (sym (place-end-not n a i fs e)) (small 3 n (omega arith) (omega arith))
 
 -- the numbers of some rules are at most 7
 abbrev upTo7 : List Rule → Bool
@@ -72,7 +72,7 @@ row-small : (r : Row) (i c e l : ℕ) → rowReply r i c e l ≤ 7
 unfolding rowReply
 row-small r i c e l = first-small _ refl
 
-rows-small : (fs : List Frame) (n a c i e l : ℕ) → Placed n a i fs → Small (rowsGood n c i e l fs)
+rows-small : (fs : List Frame) (n a c i e l : ℕ) → Placed n a i fs → SmallTold (rowsGood n c i e l fs)
 unfolding rowsGood
 rows-small [] n a c i e l q = small 0 0 (omega arith) (omega arith)
 rows-small (malformed w ∷ fs) n a c i e l q = small 0 0 (omega arith) (omega arith)
@@ -81,26 +81,26 @@ rows-small (opens b ws ∷ fs) n a c i e l q = rows-small fs (n + 1) (a + 1) (ro
 rows-small (gives b ws ∷ fs) n a c i e l q =
     go (rowReply (rowIn ws) i c e l) refl (rows-small fs (n + 1) a c (i + 1) (rowIn ws .early) (rowIn ws .late) (give-on n a i b ws fs q))
   where
-    go : (r : ℕ) → rowReply (rowIn ws) i c e l ≡ r → Small (rowsGood (n + 1) c (i + 1) (rowIn ws .early) (rowIn ws .late) fs)
-        → Small (rowsGood n c i e l (gives b ws ∷ fs))
-    go zero h rec = subst Small (sym (good-row n c i e l b ws fs h)) rec
+    go : (r : ℕ) → rowReply (rowIn ws) i c e l ≡ r → SmallTold (rowsGood (n + 1) c (i + 1) (rowIn ws .early) (rowIn ws .late) fs)
+        → SmallTold (rowsGood n c i e l (gives b ws ∷ fs))
+    go zero h rec = subst SmallTold (sym (good-row n c i e l b ws fs h)) rec
     go (suc r) h rec =
         let m = row-small (rowIn ws) i c e l in
         let k = q .line in
         let a = q .agents in
         let j = q .rows in
-        subst Small (sym (bad-row n c i e l b ws fs (suc r) h (λ z. omega arith))) (small (suc r) n (omega arith) (omega arith))
+        subst SmallTold (sym (bad-row n c i e l b ws fs (suc r) h (λ z. omega arith))) (small (suc r) n (omega arith) (omega arith))
 
-pub frames-small : (fs : List Frame) → Small (framesReply fs)
+pub frames-small : (fs : List Frame) → SmallTold (framesReply fs)
 frames-small fs = go (inPlace 1 0 0 fs .reply) refl
   where
-    go : (r : ℕ) → inPlace 1 0 0 fs .reply ≡ r → Small (framesReply fs)
-    go zero h = subst Small (sym (in-places fs h)) (rows-small fs 1 0 0 0 0 0 (placed-first fs h))
-    go (suc r) h = subst Small (sym (misplaced fs (suc r) h (λ z. omega arith))) (place-small fs 1 0 0 (omega arith) (omega arith) (omega arith))
+    go : (r : ℕ) → inPlace 1 0 0 fs .reply ≡ r → SmallTold (framesReply fs)
+    go zero h = subst SmallTold (sym (in-places fs h)) (rows-small fs 1 0 0 0 0 0 (placed-first fs h))
+    go (suc r) h = subst SmallTold (sym (misplaced fs (suc r) h (λ z. omega arith))) (place-small fs 1 0 0 (omega arith) (omega arith) (omega arith))
 
-pub read-small : (text tb : List ℕ) (t : Told) (after : List ℕ) → Read text tb t after → Small t
-read-small text tb t after r = subst Small (sym (ap (λ (o : ReadOutcome). o .told) r)) (go (ltb (length tb) tableWords) refl)
+pub read-small : (text tb : List ℕ) (t : Told) (after : List ℕ) → Read text tb t after → SmallTold t
+read-small text tb t after r = subst SmallTold (sym (ap (λ (o : ReadOutcome). o .told) r)) (go (ltb (length tb) tableWords) refl)
   where
-    go : (b : Bool) → ltb (length tb) tableWords ≡ b → Small (readInto text tb .told)
-    go true e = subst Small (ap (λ (o : ReadOutcome). o .told) (short-table text tb (ltb-true _ _ e))) (small 1 0 (omega arith) (omega arith))
-    go false e = subst Small (sym (read-told text tb (ltb-false _ _ e))) (frames-small (framesOf text))
+    go : (b : Bool) → ltb (length tb) tableWords ≡ b → SmallTold (readInto text tb .told)
+    go true e = subst SmallTold (ap (λ (o : ReadOutcome). o .told) (short-table text tb (ltb-true _ _ e))) (small 1 0 (omega arith) (omega arith))
+    go false e = subst SmallTold (sym (read-told text tb (ltb-false _ _ e))) (frames-small (framesOf text))

@@ -1,7 +1,7 @@
 -- The words of a table while a text is taken in: what holds of them after each line. Assumes nothing.
 use mathlib.Core.Path.{_≡_, refl, ap, _∙_}
 use mathlib.Core.List.{List}
-use Prim.Native.Nat.{ℕ, zero, suc, _+_, _-_, _≤_, _<_}
+use Prim.Native.Nat.{ℕ, zero, suc, _+_, _≤_, _<_}
 use native.Mathlib.Numerals.{add-one}
 use native.Mathlib.Omega.{arith}
 use lib.ListN.{length, getD, set, length-set}
@@ -13,7 +13,8 @@ use Rattle.tables.specs.Lines.{same}
 use Rattle.reading.specs.Reader.{rowIn}
 use Rattle.tables.specs.declared.Row.{Row}
 use Rattle.tables.proofs.Good.{Zero, AgentFacts, TableFacts}
-use Rattle.reading.proofs.Stores.{sets-in, withOpened, opened-below, opened-above, withGiven, given-below, given-above, Now, now-opened, now-given}
+use Rattle.tables.proofs.Stored.{sets-in}
+use Rattle.reading.proofs.Stores.{withOpened, opened-below, opened-above, withGiven, given-below, given-above, Now, now-opened, now-given}
 
 -- the reply of row j of agent a, where its agent has c rows
 abbrev replyIn : List ℕ → ℕ → ℕ → ℕ → ℕ

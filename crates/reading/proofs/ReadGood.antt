@@ -19,9 +19,9 @@ use Rattle.reading.specs.Calls.{Read}
 use Rattle.reading.specs.declared.Told.{Told}
 use Rattle.tables.proofs.Good.{TableFacts, table-good, good-checked}
 use Rattle.reading.proofs.Accepted.{Placed, placed-first, open-agent, open-rows, open-on, give-agent, give-row, give-on, ends-rows, none-placed, fault-placed}
-use Rattle.reading.proofs.Outcomes.{in-places, accepted-placed, accepted-read}
+use Rattle.reading.proofs.Outcomes.{in-places, accepted-placed, accepted-read, blank, blank-length}
 use Rattle.reading.proofs.RowsRead.{good-row, bad-row}
-use Rattle.reading.proofs.Stores.{withOpened, withGiven}
+use Rattle.reading.proofs.Stores.{withOpened, opened-length, withGiven, given-length}
 use Rattle.reading.proofs.Growing.{Closed, Open, opened, given, closed, all-facts}
 
 -- opening lines and rows have four words
@@ -105,20 +105,14 @@ frames-four (l ∷ ls) = (frame-four l, frames-four ls)
 loaded-length : (fs : List Frame) (tb : List ℕ) (a i : ℕ) → length (loaded tb a i fs) ≡ length tb
 unfolding loaded
 loaded-length [] tb a i = refl
-loaded-length (opens b ws ∷ fs) tb a i =
-    loaded-length fs (sets (set tb agentsPlace (a + 1)) (startPlace a) ws) (a + 1) 0
-    ∙ length-sets (set tb agentsPlace (a + 1)) (startPlace a) ws
-    ∙ length-set tb agentsPlace (a + 1)
-loaded-length (gives b ws ∷ fs) tb a i =
-    loaded-length fs (sets (set tb (countPlace (a - 1)) (i + 1)) (rowPlace (a - 1) i) ws) a (i + 1)
-    ∙ length-sets (set tb (countPlace (a - 1)) (i + 1)) (rowPlace (a - 1) i) ws
-    ∙ length-set tb (countPlace (a - 1)) (i + 1)
+loaded-length (opens b ws ∷ fs) tb a i = loaded-length fs (withOpened tb a ws) (a + 1) 0 ∙ opened-length tb a ws
+loaded-length (gives b ws ∷ fs) tb a i = loaded-length fs (withGiven tb (a - 1) i ws) a (i + 1) ∙ given-length tb (a - 1) i ws
 loaded-length (ends ∷ fs) tb a i = refl
 loaded-length (malformed w ∷ fs) tb a i = refl
 
 pub table-length : (fs : List Frame) → length (tableOf fs) ≡ tableWords
 unfolding tableOf
-table-length fs = loaded-length fs (replicate tableWords 0) 0 0 ∙ length-replicate {A = ℕ} tableWords 0
+table-length fs = loaded-length fs blank 0 0 ∙ blank-length
 
 pub read-good : (text : List ℕ) → framesReply (framesOf text) .reply ≡ 0 → goodTable (tableOf (framesOf text)) ≡ true
 unfolding tableOf framesOf

@@ -1,4 +1,4 @@
--- What stands where after a run of stores, and after an agent or a row is put into a table. Assumes nothing.
+-- What stands where after an agent or a row is put into a table. Assumes nothing.
 use mathlib.Core.Path.{_≡_, refl, ap, _∙_}
 use mathlib.Core.List.{List, [], _∷_}
 use Prim.Native.Nat.{ℕ, zero, suc, _+_, _≤_, _<_}
@@ -7,23 +7,7 @@ use lib.ListN.{length, getD, set, length-set}
 use lib.Seq.{sets, length-sets, getD-set-same, getD-set-other}
 use Rattle.tables.specs.Layout.{agentsPlace, agents, countPlace, rows, startPlace, rowPlace, tableWords}
 use Rattle.tables.proofs.Good.{Zero}
-
-sets-below : (l : List ℕ) (p : ℕ) (vs : List ℕ) (k : ℕ) → k < p → getD (sets l p vs) k 0 ≡ getD l k 0
-sets-below l p [] k h = refl
-sets-below l p (v ∷ vs) k h = sets-below (set l p v) (suc p) vs k (omega arith) ∙ getD-set-other l p k v 0 (λ e. omega arith)
-
-sets-above : (l : List ℕ) (p : ℕ) (vs : List ℕ) (k : ℕ) → p + length vs ≤ k → getD (sets l p vs) k 0 ≡ getD l k 0
-sets-above l p [] k h = refl
-sets-above l p (v ∷ vs) k h = sets-above (set l p v) (suc p) vs k (omega arith) ∙ getD-set-other l p k v 0 (λ e. omega arith)
-
-pub sets-in : (l : List ℕ) (p : ℕ) (vs : List ℕ) (j k : ℕ) → k ≡ p + j → j < length vs → p + length vs ≤ length l → getD (sets l p vs) k 0 ≡ getD vs j 0
-sets-in l p [] j k e h r = absurd (omega arith)
-sets-in l p (v ∷ vs) zero k e h r =
-    let f : k ≡ p = omega arith in
-    sets-below (set l p v) (suc p) vs k (omega arith) ∙ ap (λ (m : ℕ). getD (set l p v) m 0) f ∙ getD-set-same l p v 0 (omega arith)
-sets-in l p (v ∷ vs) (suc j) k e h r =
-    let n = length-set l p v in
-    sets-in (set l p v) (suc p) vs j k (omega arith) (omega arith) (omega arith)
+use Rattle.tables.proofs.Stored.{sets-below, sets-above}
 
 -- ---- agent b is opened, with the registers ws
 
@@ -31,7 +15,7 @@ abbrev pub withOpened : List ℕ → ℕ → List ℕ → List ℕ
 withOpened tb b ws = sets (set tb agentsPlace (b + 1)) (startPlace b) ws
 
 module _ (tb : List ℕ) (b : ℕ) (ws : List ℕ) where
-  opened-length : length (withOpened tb b ws) ≡ length tb
+  pub opened-length : length (withOpened tb b ws) ≡ length tb
   opened-length = length-sets (set tb agentsPlace (b + 1)) (startPlace b) ws ∙ length-set tb agentsPlace (b + 1)
 
   pub opened-below : (k : ℕ) → 1 ≤ k → k < startPlace b → getD (withOpened tb b ws) k 0 ≡ getD tb k 0
@@ -49,7 +33,7 @@ abbrev pub withGiven : List ℕ → (b i : ℕ) → List ℕ → List ℕ
 withGiven tb b i ws = sets (set tb (countPlace b) (i + 1)) (rowPlace b i) ws
 
 module _ (tb : List ℕ) (b i : ℕ) (ws : List ℕ) where
-  given-length : length (withGiven tb b i ws) ≡ length tb
+  pub given-length : length (withGiven tb b i ws) ≡ length tb
   given-length = length-sets (set tb (countPlace b) (i + 1)) (rowPlace b i) ws ∙ length-set tb (countPlace b) (i + 1)
 
   pub given-below : (k : ℕ) → (k ≡ countPlace b → ⊥) → k < rowPlace b i → getD (withGiven tb b i ws) k 0 ≡ getD tb k 0

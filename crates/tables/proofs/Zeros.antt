@@ -1,4 +1,4 @@
--- Words that are 0 from one place to another: one place more, and what it says of each place. Assumes nothing.
+-- Words that are 0 from one place to another: one place more, and what it says of each place; and a list of zeros. Assumes nothing.
 use mathlib.Core.Path.{_≡_, refl, sym, ap, _∙_}
 use mathlib.Core.Bool.{Bool, true, false, _&&_, and-true, and-assoc}
 use mathlib.Core.List.{List, [], _∷_}

@@ -10,7 +10,7 @@ use Rattle.tables.specs.Frames.{Frame, framesOf}
 use Rattle.reading.specs.Reader.{framesReply, tableOf}
 use Rattle.reading.specs.Calls.{readInto}
 use Rattle.reading.specs.declared.Told.{Told}
-use Rattle.reading.proofs.Outcomes.{read-told, read-table}
+use Rattle.reading.proofs.Outcomes.{blank, blank-length, read-told, read-table}
 use Rattle.choices.specs.State.{startWords}
 use Rattle.traces.specs.Input.{longestInput, tableText, choiceLines, badChoiceOf, choicesIn}
 use Rattle.traces.specs.Output.{Traced, traced, lastLine, traceFrom, refusedOr, traceChoices, traceOf}
@@ -37,17 +37,14 @@ told-some q next k = go (q .reply) refl
     go (suc r) e = told-by q next (suc r) e
 
 module _ (input : List ℕ) (short : length input ≤ longestInput) where
-  blank : List ℕ
-  blank = replicate tableWords 0
-
   frames : List Frame
   frames = framesOf (tableText input)
 
   trace-table : traceOf input ≡ refusedOr (framesReply frames) (traceChoices (readInto (tableText input) blank .table) input)
-  unfolding traceOf blank frames
+  unfolding traceOf frames
   trace-table =
       rw (le-ltb longestInput (length input) short, traceOf)
-      (ap (λ (q : Told). refusedOr q (traceChoices (readInto (tableText input) blank .table) input)) (read-told (tableText input) blank (omega (arith, length-replicate {A = ℕ} tableWords 0))))
+      (ap (λ (q : Told). refusedOr q (traceChoices (readInto (tableText input) blank .table) input)) (read-told (tableText input) blank (omega (arith, blank-length))))
 
   pub trace-refused : (framesReply (framesOf (tableText input)) .reply ≡ 0 → ⊥)
       → traceOf input ≡ traced (framesReply (framesOf (tableText input)) .reply) (lastLine (framesReply (framesOf (tableText input)) .reply) (framesReply (framesOf (tableText input)) .line))
@@ -56,11 +53,11 @@ module _ (input : List ℕ) (short : length input ≤ longestInput) where
 
   module _ (h : framesReply (framesOf (tableText input)) .reply ≡ 0) where
     trace-choices : traceOf input ≡ traceChoices (tableOf (framesOf (tableText input))) input
-    unfolding frames blank
+    unfolding frames
     trace-choices =
         trace-table
         ∙ told-none (framesReply frames) _ h
-        ∙ ap (λ (tb : List ℕ). traceChoices tb input) (read-table (tableText input) blank (length-replicate {A = ℕ} tableWords 0) h)
+        ∙ ap (λ (tb : List ℕ). traceChoices tb input) (read-table (tableText input) blank blank-length h)
 
     pub trace-faulty : (badChoiceOf input .reply ≡ 0 → ⊥) → traceOf input ≡ traced (badChoiceOf input .reply) (lastLine (badChoiceOf input .reply) (badChoiceOf input .line))
     unfolding traceChoices

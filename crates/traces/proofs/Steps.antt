@@ -12,7 +12,8 @@ use Rattle.choices.specs.Step.{choiceReply, accepted}
 use Rattle.traces.specs.Output.{Traced, traced, after, stepLine, lastLine, traceFrom}
 use Rattle.traces.specs.Calls.{written}
 use Rattle.traces.specs.Places.{placed}
-use Rattle.digits.proofs.Writes.{sets-append, hexDigits-length, hexWords-length, from-start}
+use Rattle.tables.proofs.Stored.{sets-append, from-start}
+use Rattle.digits.proofs.Writes.{hexDigits-length, hexWords-length}
 
 -- ---- lengths
 

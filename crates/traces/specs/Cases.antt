@@ -18,6 +18,7 @@ use Rattle.choices.specs.Effect.{after, receive}
 use Rattle.choices.specs.Fit.{inTime, unfinished}
 use Rattle.choices.specs.Step.{choiceReply, stuck, canGo, accepted, withAgent, withSent}
 use Rattle.traces.specs.Input.{tableBytes, tableText, choiceLines, knownInChoices, badChoice, badChoiceOf, choicesIn}
+use Rattle.digits.specs.Cases.{exampleText}
 use Rattle.digits.specs.Hex.{hexChar, hexDigits, hexWords, hexLine}
 use Rattle.traces.specs.Output.{stepLine, lastLine, traceFrom, traceChoices, refusedOr, traceOf}
 
@@ -27,14 +28,6 @@ opens-0 = hexLine 36 0x000000000005000000000000000000000000
 sends : List ℕ
 sends = hexLine 36 0x010020000000000000070000000100000003
 
-table : List ℕ
-table =
-    opens-0
-    ++ (sends
-    ++ (hexLine 36 0x000100000000000000000000000000000000
-    ++ (hexLine 36 0x010130010000000000070000000400000008
-    ++ endLine)))
-
 -- the trace of this input is this output
 gives : (input output : List ℕ) → Bool
 unfolding first every same startWords choiceReply stuck canGo inTime unfinished accepted withAgent withSent after receive best lookAgents lookRows look visible beats rowReply wellFormed fieldsFit namesOf within rowOf zeroFrom allZero allBelow readInto framesInto framesReply framesOf frameOf fourWords judge judgeKind onlyDigits beginsWith faultReply digitsLine allHex field number hexDigit lines inPlace rowsGood rowsNext loaded tableOf onesIn trailingZeros tableBytes tableText choiceLines badChoice badChoiceOf choicesIn hexChar hexDigits hexWords stepLine lastLine traceFrom traceChoices refusedOr traceOf
@@ -42,16 +35,16 @@ gives input output = same (traceOf input .bytes) output
 
 cases : T (every (
     -- 01's example
-    gives (table ++ (hexLine 12 0x020000000003 ++ hexLine 12 0x020100000004))
+    gives (exampleText ++ (hexLine 12 0x020000000003 ++ hexLine 12 0x020100000004))
     (hexLine 46 0x0300010000000300000005000000000000000000000000 ++ (hexLine 46 0x0301010000000400000000000000050000000000000000 ++ hexLine 8 0xFE000002))
     -- a choice line is cut: 18, "its line number in the whole input .. before any step"
-    ∷ gives (table ++ (hexLine 12 0x020000000003 ++ hexLine 10 0x0201000000)) (hexLine 8 0xFE120007)
+    ∷ gives (exampleText ++ (hexLine 12 0x020000000003 ++ hexLine 10 0x0201000000)) (hexLine 8 0xFE120007)
     -- the earliest line counts: 19 for an empty one, though a letter follows
     ∷ gives (opens-0 ++ (sends ++ (newline ∷ 103 ∷ newline ∷ []))) (hexLine 8 0xFE130003)
     -- "all before 3 on one line": a row with no open agent that is cut too
     ∷ gives (hexLine 34 0x0100200000000000000700000001000000) (hexLine 8 0xFE120001)
     ∷ []))
-unfolding opens-0 sends table gives hexLine every
+unfolding opens-0 sends exampleText gives hexLine every
 cases = tt
 
 -- "in choice lines only `02` is known"

@@ -12,7 +12,8 @@ use Rattle.tables.proofs.Lines.{same-eq, same-self, hex-part}
 use Rattle.tables.proofs.Newlines.{joined, line-hex, line-end, line-length, lines-end}
 use Rattle.tables.proofs.TableLine.{Tells, tells, kindFrame, line-frame, end-frame}
 use Rattle.digits.specs.Hex.{hexDigits, hexWords}
-use Rattle.digits.proofs.Writes.{hexDigits-length, hexWords-length, four-of}
+use Rattle.tables.proofs.Stored.{four-by}
+use Rattle.digits.proofs.Writes.{hexDigits-length, hexWords-length}
 use Rattle.digits.proofs.Back.{hex-append, digits-hex, words-hex, digits-field, digits-past, word-field, made-line, line-first, field-written}
 use Rattle.reading.proofs.Accepted.{Placed, open-on, give-on, last-line, fault-placed}
 use Rattle.writing.specs.Writer.{frameLine, lineOf, linesOf}
@@ -59,27 +60,23 @@ module _ (kind a : ℕ) (ws : List ℕ) (four : length ws ≡ 4) (hk : kind < 16
   words-at : fourWords (frameLine kind a ws) ≡ ws
   unfolding fourWords
   words-at =
-      let e0 = word-at 0 4 (omega arith) (omega arith) in
-      let e1 = word-at 1 12 (omega arith) (omega arith) in
-      let e2 = word-at 2 20 (omega arith) (omega arith) in
-      let e3 = word-at 3 28 (omega arith) (omega arith) in
-      (λ i. e0 i ∷ e1 i ∷ e2 i ∷ e3 i ∷ []) ∙ sym (four-of ws four)
+      four-by ws four (word-at 0 4 (omega arith) (omega arith)) (word-at 1 12 (omega arith) (omega arith)) (word-at 2 20 (omega arith) (omega arith)) (word-at 3 28 (omega arith) (omega arith))
 
   frame-read : frameOf (frameLine kind a ws) ≡ kindFrame kind a ws
   frame-read = line-frame (frameLine kind a ws) (frame-digits kind a ws four) ∙ (λ i. kindFrame (kind-at i) (agent-at i) (words-at i))
 
 -- a frame that a line can give
-abbrev pub Plain : Frame → Type 0
-Plain (opens a ws) = (a < 256) × (length ws ≡ 4) × Small ws
-Plain (gives a ws) = (a < 256) × (length ws ≡ 4) × Small ws
-Plain ends = Unit
-Plain (malformed w) = ⊥
+abbrev pub PlainFrame : Frame → Type 0
+PlainFrame (opens a ws) = (a < 256) × (length ws ≡ 4) × Small ws
+PlainFrame (gives a ws) = (a < 256) × (length ws ≡ 4) × Small ws
+PlainFrame ends = Unit
+PlainFrame (malformed w) = ⊥
 
-abbrev pub AllPlain : List Frame → Type 0
-AllPlain [] = Unit
-AllPlain (f ∷ fs) = Plain f × AllPlain fs
+abbrev pub AllPlainFrames : List Frame → Type 0
+AllPlainFrames [] = Unit
+AllPlainFrames (f ∷ fs) = PlainFrame f × AllPlainFrames fs
 
-frame-back : (f : Frame) → Plain f → frameOf (lineOf f) ≡ f
+frame-back : (f : Frame) → PlainFrame f → frameOf (lineOf f) ≡ f
 unfolding lineOf
 frame-back (opens a ws) h = frame-read 0x00 a ws (h .1) (omega arith) (h .0) (h .2)
 frame-back (gives a ws) h = frame-read 0x01 a ws (h .1) (omega arith) (h .0) (h .2)
@@ -87,7 +84,7 @@ frame-back ends h = end-frame
 frame-back (malformed w) h = absurd h
 
 -- it is the first line of a text that begins with it
-line-split : (f : Frame) (r : List ℕ) → Plain f → lines (lineOf f ++ r) ≡ lineOf f ∷ lines r
+line-split : (f : Frame) (r : List ℕ) → PlainFrame f → lines (lineOf f ++ r) ≡ lineOf f ∷ lines r
 unfolding lineOf
 line-split (opens a ws) r h = line-first 36 (frameLine 0x00 a ws) r (frame-length 0x00 a ws (h .1)) (frame-digits 0x00 a ws (h .1))
 line-split (gives a ws) r h = line-first 36 (frameLine 0x01 a ws) r (frame-length 0x01 a ws (h .1)) (frame-digits 0x01 a ws (h .1))
@@ -95,7 +92,7 @@ line-split ends r h = lines-end (endLine ++ r) (same-self endLine)
 line-split (malformed w) r h = absurd h
 
 -- the frames that are written are the frames that are read
-pub frames-back : (fs : List Frame) → AllPlain fs → framesOf (linesOf fs) ≡ fs
+pub frames-back : (fs : List Frame) → AllPlainFrames fs → framesOf (linesOf fs) ≡ fs
 unfolding framesOf linesOf lines
 frames-back [] h = refl
 frames-back (f ∷ fs) h =

@@ -30,7 +30,7 @@ use Rattle.writing.specs.Calls.{WriteOutcome, wrote, writeOutcome, write
 use Rattle.writing.specs.Laws.{bytesWritten, WrittenIsRead, ReadIsWritten, Accepted, ReadFrom, AcceptedAreRead, LengthOfTable, RoomIsEnough, LengthBounds}
 use Rattle.writing.proofs.Lengths.{text-length, length-within}
 use Rattle.writing.proofs.Outcomes.{checked-words, too-long, all-written}
-use Rattle.writing.proofs.FrameLines.{AllPlain, frames-back, text-back}
+use Rattle.writing.proofs.FrameLines.{AllPlainFrames, frames-back, text-back}
 use Rattle.writing.proofs.Loaded.{table-frames}
 use Rattle.writing.proofs.Accepts.{frames-placed, frames-pass}
 use Rattle.writing.proofs.SameFrames.{same-words}
@@ -38,19 +38,19 @@ use Rattle.writing.proofs.SameFrames.{same-words}
 -- ---- the text of a table is read to its words
 
 module _ (tb : List ℕ) (long : length tb ≡ tableWords) (small : Small tb) (good : goodTable tb ≡ true) where
-  four-small : (p : ℕ) → Small (fourAt tb p)
-  four-small p = small-cons (small .word p) (small-cons (small .word (p + 1)) (small-cons (small .word (p + 2)) (small-cons (small .word (p + 3)) small-nil)))
+  fourAt-small : (p : ℕ) → Small (fourAt tb p)
+  fourAt-small p = small-cons (small .word p) (small-cons (small .word (p + 1)) (small-cons (small .word (p + 2)) (small-cons (small .word (p + 3)) small-nil)))
 
-  rows-plain : (c a i : ℕ) (fs : List Frame) → a < 256 → AllPlain fs → AllPlain (rowsFrom tb a i c ++ fs)
+  rows-plain : (c a i : ℕ) (fs : List Frame) → a < 256 → AllPlainFrames fs → AllPlainFrames (rowsFrom tb a i c ++ fs)
   unfolding rowsFrom
   rows-plain zero a i fs h p = p
-  rows-plain (suc c) a i fs h p = ((h, refl, four-small (rowPlace a i)), rows-plain c a (suc i) fs h p)
+  rows-plain (suc c) a i fs h p = ((h, refl, fourAt-small (rowPlace a i)), rows-plain c a (suc i) fs h p)
 
-  agents-plain : (n a : ℕ) → a + n ≤ 16 → AllPlain (agentsFrom tb a n)
+  agents-plain : (n a : ℕ) → a + n ≤ 16 → AllPlainFrames (agentsFrom tb a n)
   unfolding agentsFrom
   agents-plain zero a h = (tt, tt)
   agents-plain (suc n) a h =
-      ((omega arith, refl, four-small (startPlace a)), rows-plain (rows tb a) a 0 (agentsFrom tb (suc a) n) (omega arith) (agents-plain n (suc a) (omega arith)))
+      ((omega arith, refl, fourAt-small (startPlace a)), rows-plain (rows tb a) a 0 (agentsFrom tb (suc a) n) (omega arith) (agents-plain n (suc a) (omega arith)))
 
   frames-read : framesOf (textOf tb) ≡ framesIn tb
   unfolding textOf framesIn

@@ -8,9 +8,9 @@ use lib.ListN.{length, getD, set, length-set}
 use lib.Seq.{sets}
 use Rattle.tables.specs.Layout.{agentsPlace, agents, countPlace, rows, startPlace, rowPlace, tableWords}
 use Rattle.tables.specs.Frames.{Frame, opens, gives, ends, malformed}
-use Rattle.digits.proofs.Writes.{four-of}
 use Rattle.reading.specs.Reader.{inPlace, rowsNext, loaded, tableOf}
-use Rattle.reading.proofs.Stores.{sets-in, withOpened, opened-below, opened-above, withGiven, given-below, Now, now-opened, now-given}
+use Rattle.tables.proofs.Stored.{sets-in, four-by}
+use Rattle.reading.proofs.Stores.{withOpened, opened-below, opened-above, withGiven, given-below, Now, now-opened, now-given}
 use Rattle.reading.proofs.Outcomes.{blank, blank-length}
 use Rattle.reading.proofs.Accepted.{Placed, placed-first, open-agent, open-next, open-on, give-agent, give-row, give-on, ends-rows, ends-last, none-placed, fault-placed}
 use Rattle.reading.proofs.ReadGood.{Fours}
@@ -25,11 +25,7 @@ four-stored : (l ws other : List ℕ) (p : ℕ) → length ws ≡ 4 → p + 4 �
 four-stored l ws other p four room same =
     let at : (j k : ℕ) → k ≡ p + j → j < 4 → getD other k 0 ≡ getD ws j 0 =
     λ j k e h. same k (omega arith) (omega arith) ∙ sets-in l p ws j k e (omega arith) (omega arith) in
-    let e0 = at 0 p (omega arith) (omega arith) in
-    let e1 = at 1 (p + 1) refl (omega arith) in
-    let e2 = at 2 (p + 2) refl (omega arith) in
-    let e3 = at 3 (p + 3) refl (omega arith) in
-    (λ i. e0 i ∷ e1 i ∷ e2 i ∷ e3 i ∷ []) ∙ sym (four-of ws four)
+    four-by ws four (at 0 p (omega arith) (omega arith)) (at 1 (p + 1) refl (omega arith)) (at 2 (p + 2) refl (omega arith)) (at 3 (p + 3) refl (omega arith))
 
 -- ---- what the frames that are left do not touch, and what they come to
 

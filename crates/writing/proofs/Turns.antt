@@ -8,7 +8,7 @@ use lib.ListN.{length}
 use lib.Seq.{sets}
 use Rattle.tables.specs.Layout.{agents, rows, startPlace, rowPlace}
 use Rattle.tables.specs.Lines.{endLine}
-use Rattle.digits.proofs.Writes.{run-then}
+use Rattle.tables.proofs.Stored.{run-then}
 use Rattle.writing.specs.Writer.{fourAt, frameLine, lineOf, linesOf, rowsFrom, agentsFrom, framesIn, textOf}
 use Rattle.writing.specs.Laws.{rowTotal, textLength}
 use Rattle.writing.proofs.Lengths.{frame-length, rows-length, agent-lines, text-length, rows-grow}

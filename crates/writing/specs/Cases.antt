@@ -11,6 +11,7 @@ use Rattle.tables.specs.Table.{goodTable, goodAgent, goodRows, rowReplyAt, earl
 use Rattle.tables.specs.Lines.{newline, endLine, same}
 use Rattle.tables.specs.Cases.{exampleTable}
 use Rattle.tables.specs.Calls.{checkReply}
+use Rattle.digits.specs.Cases.{exampleText}
 use Rattle.digits.specs.Hex.{hexChar, hexDigits, hexWords, hexLine}
 use Rattle.writing.specs.Writer.{rowsFrom, agentsFrom, framesIn, frameLine, lineOf, linesOf, textOf}
 use Rattle.writing.specs.Calls.{bytesInto, writeInto}
@@ -34,19 +35,11 @@ leaves tb n r m bs =
     let w = writeInto tb (replicate n 1) in
     eqb (w .wrote .reply) r && eqb (w .wrote .length) m && same (w .text) bs
 
-text : List ℕ
-text =
-    hexLine 36 0x000000000005000000000000000000000000
-    ++ (hexLine 36 0x010020000000000000070000000100000003
-    ++ (hexLine 36 0x000100000000000000000000000000000000
-    ++ (hexLine 36 0x010130010000000000070000000400000008
-    ++ endLine)))
-
 cases : T (every (
     -- the text, and two bytes after it as they were
-    leaves exampleTable 153 0 151 (text ++ (1 ∷ 1 ∷ []))
+    leaves exampleTable 153 0 151 (exampleText ++ (1 ∷ 1 ∷ []))
     -- words past the table's are not read
-    ∷ leaves (exampleTable ++ (9 ∷ [])) 151 0 151 text
+    ∷ leaves (exampleTable ++ (9 ∷ [])) 151 0 151 exampleText
     -- a byte too few: the length needed, and no byte written
     ∷ leaves exampleTable 150 20 151 (replicate 150 1)
     ∷ leaves exampleTable 0 20 151 []
@@ -58,7 +51,7 @@ cases : T (every (
     -- bad words before a buffer too short
     ∷ leaves (take 2128 exampleTable ++ (1 ∷ [])) 0 8 0 []
     ∷ []))
-unfolding leaves hexLine text exampleTable shortest setsRegister every hexDigits hexChar
+unfolding leaves hexLine exampleText exampleTable shortest setsRegister every hexDigits hexChar
 cases = tt
 
 -- n rows that set register 0 to 0, in the window 0 to 1

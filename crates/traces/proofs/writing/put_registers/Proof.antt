@@ -1,11 +1,11 @@
 -- `put_registers` meets its contract. Assumes nothing.
-use mathlib.Core.Path.{_≡_, sym, ap, _∙_}
+use mathlib.Core.Path.{_≡_, refl, ap, _∙_}
 use mathlib.Core.List.{List}
 use Prim.Native.Nat.{ℕ}
 use lib.ListN.{length}
 use lib.Seq.{sets}
 use Rattle.digits.specs.Hex.{hexWords}
-use Rattle.digits.proofs.Writes.{four-of}
+use Rattle.tables.proofs.Stored.{four-by}
 use borrow.Author.Needs.{needs}
 use Rattle.traces.proofs.writing.put_registers.Statement.{statement}
 use Rattle.traces.proofs.writing.put_registers.Tie as tie
@@ -32,7 +32,7 @@ returns : tie.Need-returns
 returns c =
     let g = c .before .before .before .before .before .args in
     let n : length (g .t3) ≡ 4 = search needs in
-    (c .before .before .put-four .ensures ∙ ap (λ (l : List ℕ). sets (g .out .now) (g .at) (hexWords l)) (sym (four-of (g .t3) n)), n)
+    (c .before .before .put-four .ensures ∙ ap (λ (l : List ℕ). sets (g .out .now) (g .at) (hexWords l)) (four-by (g .t3) n refl refl refl refl), n)
 
 pub put-registers-spec : {M : Type 1} → statement M
 put-registers-spec =

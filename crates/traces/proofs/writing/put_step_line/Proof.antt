@@ -5,7 +5,8 @@ use mathlib.Core.List.{[], _∷_, _++_}
 use Prim.Native.Nat.{_+_, _*_}
 use lib.ListN.{length, set, length-set}
 use Rattle.digits.specs.Hex.{hexDigits, hexWords}
-use Rattle.digits.proofs.Writes.{digits-then, run-then, hexWords-length}
+use Rattle.tables.proofs.Stored.{run-then}
+use Rattle.digits.proofs.Writes.{digits-then, hexWords-length}
 use Rattle.traces.specs.Output.{stepLine}
 use borrow.Author.Needs.{needs}
 use Rattle.traces.proofs.writing.put_step_line.Statement.{statement}

@@ -5,7 +5,8 @@ use mathlib.Core.List.{[], _∷_, _++_}
 use Prim.Native.Nat.{_+_}
 use lib.ListN.{length, set, length-set}
 use Rattle.digits.specs.Hex.{hexDigits, hexWords}
-use Rattle.digits.proofs.Writes.{digits-then, run-then, hexWords-length}
+use Rattle.tables.proofs.Stored.{run-then}
+use Rattle.digits.proofs.Writes.{digits-then, hexWords-length}
 use Rattle.writing.specs.Writer.{fourAt, frameLine}
 use borrow.Author.Needs.{needs}
 use Rattle.writing.proofs.lines.put_line.Statement.{statement}

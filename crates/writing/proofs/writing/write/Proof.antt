@@ -4,7 +4,7 @@ use mathlib.Core.Path.{sym, ap, _∙_}
 use Prim.Native.Nat.{ℕ, _≤_}
 use lib.ListN.{length, take}
 use Rattle.tables.specs.Layout.{tableWords}
-use Rattle.digits.proofs.Writes.{from-start}
+use Rattle.tables.proofs.Stored.{from-start}
 use Rattle.writing.specs.Writer.{textOf}
 use Rattle.writing.specs.Calls.{wrote, writeOutcome}
 use Rattle.writing.proofs.Outcomes.{checked-words, table-refused, too-long, all-written}
