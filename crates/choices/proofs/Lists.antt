@@ -1,12 +1,11 @@
 -- Parts of a list, told word by word. Assumes nothing.
-use mathlib.Core.Path.{_≡_, refl, sym, _∙_}
-use mathlib.Core.Logic.{_≢_}
+use mathlib.Core.Path.{_≡_, sym, _∙_}
 use mathlib.Core.List.{List, [], _∷_, _++_}
 use Prim.Native.Nat.{ℕ, zero, suc, _+_, _-_, _<_, _≤_}
 use native.Mathlib.Nat.{not-suc-le-zero, le-of-suc-le-suc, sub-zero, suc-sub-suc}
 use native.Mathlib.Omega.{arith}
-use lib.ListN.{length, set, take, drop, getD, length-set, length-take, length-drop}
-use lib.Seq.{sets, length-sets, getD-set-same, getD-set-other, getD-take, getD-drop, ext-getD}
+use lib.ListN.{length, take, drop, getD, length-take, length-drop}
+use lib.Seq.{sets, length-sets, getD-take, getD-drop, ext-getD}
 use Rattle.tables.proofs.Stored.{getD-sets-same}
 
 -- ---- parts

@@ -5,7 +5,7 @@ use Prim.Native.Nat.{ℕ}
 use lib.ListN.{replicate}
 use Rattle.tables.specs.Basics.{first, every, allBelow, allZero, zeroFrom}
 use Rattle.tables.specs.Layout.{rowOf}
-use Rattle.tables.specs.Lines.{newline, lines, same, hexDigit, allHex, number, field, digitsLine}
+use Rattle.tables.specs.Lines.{lines, same, hexDigit, allHex, number, field, digitsLine}
 use Rattle.tables.specs.Rows.{rowReply, wellFormed, fieldsFit, namesOf, within}
 use Rattle.tables.specs.Cases.{exampleTable}
 use Rattle.tables.specs.Table.{goodTable, goodAgent, goodRows, rowReplyAt, earlyBefore, lateBefore}

@@ -1,12 +1,11 @@
 -- Digits are as many as asked, and are put one after the other. Assumes nothing.
-use mathlib.Core.Path.{_≡_, refl, sym, ap, _∙_}
+use mathlib.Core.Path.{_≡_, refl, _∙_}
 use mathlib.Core.List.{List, [], _∷_, _++_}
-use Prim.Native.Nat.{ℕ, zero, suc, _+_, _*_, _/_, _%_, _≤_}
-use native.Mathlib.Nat.{add-zero, zero-add}
+use Prim.Native.Nat.{ℕ, zero, suc, _+_, _*_, _/_, _%_}
 use native.Mathlib.Numerals.{add-one}
 use native.Mathlib.Omega.{arith}
-use lib.ListN.{length, set, getD, drop, length-append}
-use lib.Seq.{sets, set-comm, sets-eq}
+use lib.ListN.{length, set, length-append}
+use lib.Seq.{sets}
 use Rattle.tables.proofs.Stored.{sets-append, set-past, run-then}
 use Rattle.digits.specs.Hex.{hexChar, hexDigits, hexWords}
 

@@ -4,9 +4,9 @@ use mathlib.Core.Bool.{true}
 use mathlib.Core.List.{List, [], _∷_, _++_, map}
 use Prim.Native.Nat.{ℕ, zero, suc, _+_, _-_, _<_}
 use native.Mathlib.Omega.{arith}
-use lib.ListN.{length, set, take, drop, replicate, length-set, length-append, length-replicate}
-use lib.Seq.{sets, length-sets, take-at}
-use Rattle.tables.specs.Layout.{agentsPlace, countPlace, rowPlace, startPlace, tableWords}
+use lib.ListN.{length, take, drop, replicate, length-append, length-replicate}
+use lib.Seq.{take-at}
+use Rattle.tables.specs.Layout.{tableWords}
 use Rattle.tables.specs.Rows.{rowReply}
 use Rattle.tables.specs.Table.{goodTable}
 use Rattle.tables.specs.Lines.{lines}

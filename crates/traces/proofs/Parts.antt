@@ -3,9 +3,8 @@ use mathlib.Core.Path.{_≡_, refl, ap, _∙_}
 use mathlib.Core.List.{List}
 use Prim.Native.Nat.{ℕ, zero, suc, _≤_, _<_}
 use native.Mathlib.Omega.{arith}
-use lib.ListN.{length, replicate, length-replicate}
+use lib.ListN.{length}
 use borrow.Author.Tests.{lt-ltb, le-ltb}
-use Rattle.tables.specs.Layout.{tableWords}
 use Rattle.tables.specs.Frames.{Frame, framesOf}
 use Rattle.reading.specs.Reader.{framesReply, tableOf}
 use Rattle.reading.specs.Calls.{readInto}

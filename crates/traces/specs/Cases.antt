@@ -7,7 +7,7 @@ use lib.Count.{onesIn, trailingZeros}
 use Rattle.tables.specs.Basics.{first, every, allBelow, allZero, zeroFrom}
 use Rattle.tables.specs.Layout.{rowOf}
 use Rattle.tables.specs.Rows.{rowReply, wellFormed, fieldsFit, namesOf, within}
-use Rattle.tables.specs.Lines.{lines, same, endLine, hexDigit, allHex, number, field, digitsLine, newline}
+use Rattle.tables.specs.Lines.{lines, same, hexDigit, allHex, number, field, digitsLine, newline}
 use Rattle.tables.specs.Faults.{faultReply, judgedReply, onlyDigits, beginsWith, judgeKind, judge}
 use Rattle.tables.specs.Frames.{frameOf, framesOf, fourWords}
 use Rattle.reading.specs.Reader.{inPlace, rowsGood, rowsNext, framesReply, loaded, tableOf}
