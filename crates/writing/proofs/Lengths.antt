@@ -124,7 +124,7 @@ module _ {tb : List ℕ} {n lines a : ℕ} (t : Counted tb n lines a) where
         let f = few-agents in
         omega arith
 
-    pub measured : n ≤ a → 37 * lines + 3 ≡ length (textOf tb)
+    pub measured : n ≤ a → (37 * lines + 3 ≡ length (textOf tb)) × (37 * lines + 3 ≤ 19539)
     unfolding textLength
     measured h =
         let w = t .within in
@@ -132,4 +132,5 @@ module _ {tb : List ℕ} {n lines a : ℕ} (t : Counted tb n lines a) where
         let e = text-length tb in
         let q = ap (rowTotal tb) all in
         let s = t .sum in
-        omega arith
+        let f = few-lines in
+        (omega arith, omega arith)

@@ -19,12 +19,12 @@ ghost use lib.Seq.{sets};
 ghost use Rattle.tables.specs.Layout.{tableWords};
 ghost use Rattle.tables.specs.Table.{goodTable};
 ghost use Rattle.writing.specs.Writer.{textOf};
-ghost use Rattle.writing.specs.Calls.{Written};
+ghost use Rattle.writing.specs.Calls.{wrote, Written};
 
 // The length of a good table's text.
-fn text_length(table: &[u32]) -> u32
+fn text_length(table: &[u32]) -> usize
     requires { ⌜ (length (now table) ≡ tableWords) × (goodTable (now table) ≡ true) ⌝ }
-    ensures { λ r. ⌜ r ≡ length (textOf (now (table .entry))) ⌝ }
+    ensures { λ r. ⌜ (r ≡ length (textOf (now (table .entry)))) × (r ≤ 19539) ⌝ }
 {
     let n = agent_count(table) as usize;
     let mut lines = n;
@@ -33,7 +33,7 @@ fn text_length(table: &[u32]) -> u32
         lines += row_count(table, a) as usize;
         a += 1;
     }
-    (FRAME_BYTES * lines + END_BYTES) as u32
+    FRAME_BYTES * lines + END_BYTES
 }
 
 // The text of a good table, at the start of a buffer that has room for it.
@@ -55,25 +55,30 @@ fn put_text(table: &[u32], text: &mut [u8])
     put_end_line(text, at);
 }
 
+// A reply with the length that it tells, which 32 bits hold: no text is longer than 19,539 bytes.
+fn tell(reply: u32, length: usize) -> Wrote
+    requires { ⌜ length ≤ 19539 ⌝ }
+    ensures { λ r. ⌜ r ≡ wrote reply length ⌝ }
+{
+    Wrote {
+        reply,
+        length: length as u32,
+    }
+}
+
 // Writes a table's text into the lent bytes: the reply, with the length of the text. They are written only where the table is accepted and its text has room.
 pub fn write(table: &[u32], text: &mut [u8]) -> Wrote
     ensures { λ r. ⌜ Written (now (table .entry)) (now (text .entry)) r (now (text .exit)) ⌝ }
 {
     let reply = check(table);
     if reply != ACCEPTED {
-        return Wrote { reply, length: 0 };
+        return tell(reply, 0);
     }
     let words = &table[..TABLE_WORDS];
     let length = text_length(words);
-    if text.len() < length as usize {
-        return Wrote {
-            reply: TEXT_TOO_LONG,
-            length,
-        };
+    if text.len() < length {
+        return tell(TEXT_TOO_LONG, length);
     }
     put_text(words, text);
-    Wrote {
-        reply: ACCEPTED,
-        length,
-    }
+    tell(ACCEPTED, length)
 }

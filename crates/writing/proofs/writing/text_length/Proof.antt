@@ -48,9 +48,6 @@ mul-result c = let f = few-lines (c .before .loop .inv) (c .before .before .befo
 add-result : tie.Need-add-result Inv-loop μ-loop
 add-result c = let f = few-lines (c .before .loop .inv) (c .before .before .before .before .pre .1) in omega arith
 
-cast-result : tie.Need-cast-result Inv-loop μ-loop
-cast-result c = let f = few-lines (c .before .loop .inv) (c .before .before .before .before .pre .1) in omega arith
-
 pub text-length-spec : {M : Type 1} → statement M
 text-length-spec =
     tie.close
@@ -68,5 +65,4 @@ text-length-spec =
     loop-again
     mul-result
     add-result
-    cast-result
     returns)
