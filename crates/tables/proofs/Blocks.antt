@@ -1,6 +1,6 @@
 -- A number of 64 bits by its blocks: eight bytes, four pairs of bytes, two halves; and a mask that is the same in every block. Assumes nothing.
 use mathlib.Core.Path.{_≡_, refl, ap, _∙_}
-use Prim.Native.Nat.{ℕ, _+_, _*_, _<_}
+use Prim.Native.Nat.{ℕ, _+_, _*_, _^_, _<_}
 use lib.Bits.{bitAnd, and-block}
 
 -- the highest first
@@ -13,29 +13,27 @@ pairsOf p q r s = ((p * 65536 + q) * 65536 + r) * 65536 + s
 abbrev pub foursOf : (p q : ℕ) → ℕ
 foursOf p q = p * 4294967296 + q
 
-byte-and : (a m c s r : ℕ) → c < 256 → s < 256 → bitAnd a m ≡ r → bitAnd (a * 256 + c) (m * 256 + s) ≡ r * 256 + bitAnd c s
-byte-and a m c s r h k e = and-block 8 a m c s h k ∙ ap (λ (q : ℕ). q * 256 + bitAnd c s) e
-
-pair-and : (a m c s r : ℕ) → c < 65536 → s < 65536 → bitAnd a m ≡ r → bitAnd (a * 65536 + c) (m * 65536 + s) ≡ r * 65536 + bitAnd c s
-pair-and a m c s r h k e = and-block 16 a m c s h k ∙ ap (λ (q : ℕ). q * 65536 + bitAnd c s) e
+-- the lowest block, of k bits, and what stands above it
+block-and : (k a m c s r : ℕ) → c < 2 ^ k → s < 2 ^ k → bitAnd a m ≡ r → bitAnd (a * 2 ^ k + c) (m * 2 ^ k + s) ≡ r * 2 ^ k + bitAnd c s
+block-and k a m c s r h l e = and-block k a m c s h l ∙ ap (λ (q : ℕ). q * 2 ^ k + bitAnd c s) e
 
 module _ (s : ℕ) (k : s < 256) where
   pub bytes-masked : (c0 c1 c2 c3 c4 c5 c6 c7 : ℕ) → c1 < 256 → c2 < 256 → c3 < 256 → c4 < 256 → c5 < 256 → c6 < 256 → c7 < 256
       → bitAnd (bytesOf c0 c1 c2 c3 c4 c5 c6 c7) (bytesOf s s s s s s s s)
       ≡ bytesOf (bitAnd c0 s) (bitAnd c1 s) (bitAnd c2 s) (bitAnd c3 s) (bitAnd c4 s) (bitAnd c5 s) (bitAnd c6 s) (bitAnd c7 s)
   bytes-masked c0 c1 c2 c3 c4 c5 c6 c7 l1 l2 l3 l4 l5 l6 l7 =
-      byte-and _ _ c7 s _ l7 k
-      (byte-and _ _ c6 s _ l6 k
-      (byte-and _ _ c5 s _ l5 k
-      (byte-and _ _ c4 s _ l4 k
-      (byte-and _ _ c3 s _ l3 k
-      (byte-and _ _ c2 s _ l2 k
-      (byte-and c0 s c1 s _ l1 k refl))))))
+      block-and 8 _ _ c7 s _ l7 k
+      (block-and 8 _ _ c6 s _ l6 k
+      (block-and 8 _ _ c5 s _ l5 k
+      (block-and 8 _ _ c4 s _ l4 k
+      (block-and 8 _ _ c3 s _ l3 k
+      (block-and 8 _ _ c2 s _ l2 k
+      (block-and 8 c0 s c1 s _ l1 k refl))))))
 
 module _ (s : ℕ) (k : s < 65536) where
   pub pairs-masked : (p q r t : ℕ) → q < 65536 → r < 65536 → t < 65536
       → bitAnd (pairsOf p q r t) (pairsOf s s s s) ≡ pairsOf (bitAnd p s) (bitAnd q s) (bitAnd r s) (bitAnd t s)
-  pairs-masked p q r t l m n = pair-and _ _ t s _ n k (pair-and _ _ r s _ m k (pair-and p s q s _ l k refl))
+  pairs-masked p q r t l m n = block-and 16 _ _ t s _ n k (block-and 16 _ _ r s _ m k (block-and 16 p s q s _ l k refl))
 
 module _ (s : ℕ) (k : s < 4294967296) where
   pub fours-masked : (p q : ℕ) → q < 4294967296 → bitAnd (foursOf p q) (foursOf s s) ≡ foursOf (bitAnd p s) (bitAnd q s)
