@@ -1,4 +1,4 @@
-//! Document 01 once more, as change requests T-01 and T-02 of document 02 leave it, in plain Rust,
+//! Document 01 once more, as change requests T-01 to T-03 of document 02 leave it, in plain Rust,
 //! written from the papers alone.
 //!
 //! It is here to be compared with the proved library, so it is direct and not quick: words are

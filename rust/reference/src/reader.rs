@@ -2,7 +2,7 @@
 
 use crate::lines::{first_line, number, Known};
 use crate::reply::*;
-use crate::table::{row_reply, Agent, Row, Table};
+use crate::table::{Agent, Row, Table};
 use crate::{AGENTS, ROWS, TABLE_WORDS};
 
 const OPENS: u8 = 0x00;
@@ -98,15 +98,10 @@ fn lines(text: &[u8]) -> Result<Lines, Refusal> {
 /// The table of a text.
 pub fn table_of_text(text: &[u8]) -> Result<Table, Refusal> {
     let Lines { table, row_lines } = lines(text)?;
-    for (agent, its_lines) in table.agents.iter().zip(&row_lines) {
-        for (i, line) in its_lines.iter().enumerate() {
-            match row_reply(&agent.rows, i) {
-                ACCEPTED => {}
-                refusal => return Err((refusal, *line)),
-            }
-        }
+    match table.first_refused_row() {
+        Some((reply, a, i)) => Err((reply, row_lines[a][i])),
+        None => Ok(table),
     }
-    Ok(table)
 }
 
 /// Reads a text into a lent table: the reply, and its line or 0.

@@ -68,6 +68,16 @@ impl Row {
             && at_most(k, self.k, u32::MAX))
     }
 
+    /// The positions that a row at position p can go on to.
+    pub fn goes_on_to(&self, p: usize) -> Vec<usize> {
+        let target = p + 1 + usize::from(self.n);
+        match self.op {
+            SKIP | RECV => vec![p + 1, target],
+            JUMP => vec![target],
+            _ => vec![p + 1],
+        }
+    }
+
     fn from_words(words: &[u32]) -> Row {
         let [op, x, y, n] = words[0].to_be_bytes();
         Row { op, x, y, n, k: words[1], early: words[2], late: words[3] }
@@ -79,7 +89,7 @@ impl Row {
     }
 }
 
-/// The first of 4, 5, 6 and 7 that holds of row `i` of an agent; 0 where none does.
+/// The first of 4, 5 and 6 that holds of row `i` of an agent; 0 where none does.
 pub fn row_reply(rows: &[Row], i: usize) -> u32 {
     let row = rows[i];
     if row.has_bad_field() {
@@ -91,13 +101,46 @@ pub fn row_reply(rows: &[Row], i: usize) -> u32 {
     if row.early >= row.late || row.late > LAST_TIME {
         return BAD_WINDOW;
     }
-    if i > 0 && (row.early < rows[i - 1].early || row.late < rows[i - 1].late) {
-        return WINDOW_GOES_BACK;
+    ACCEPTED
+}
+
+/// 7 where the early or the late of row `i` of an agent is above that of a row that it can go on to,
+/// else 0. The end is no row and has no window.
+pub fn window_reply(rows: &[Row], i: usize) -> u32 {
+    let row = rows[i];
+    for position in row.goes_on_to(i) {
+        if let Some(next) = rows.get(position) {
+            if row.early > next.early || row.late > next.late {
+                return WINDOW_GOES_BACK;
+            }
+        }
     }
     ACCEPTED
 }
 
+/// A row that is refused: the reply, its agent and its number.
+pub type RowRefusal = (u32, usize, usize);
+
 impl Table {
+    /// The first row for which a rule does not give 0, agent by agent.
+    fn first_refused_by(&self, rule: fn(&[Row], usize) -> u32) -> Option<RowRefusal> {
+        for (a, agent) in self.agents.iter().enumerate() {
+            for i in 0..agent.rows.len() {
+                let reply = rule(&agent.rows, i);
+                if reply != ACCEPTED {
+                    return Some((reply, a, i));
+                }
+            }
+        }
+        None
+    }
+
+    /// The first row that is refused: with 4 to 6, and once all rows of all agents have passed these,
+    /// with 7.
+    pub fn first_refused_row(&self) -> Option<RowRefusal> {
+        self.first_refused_by(row_reply).or_else(|| self.first_refused_by(window_reply))
+    }
+
     /// The table's 2,129 words, unused ones 0.
     pub fn to_words(&self) -> Vec<u32> {
         let mut words = vec![0; TABLE_WORDS];
@@ -136,11 +179,7 @@ impl Table {
         }
         // What was not decoded is unused: encoding gives 0 there, so a difference is a word not 0.
         let unused_are_0 = table.to_words() == words[..TABLE_WORDS];
-        let rows_are_good = table
-            .agents
-            .iter()
-            .all(|agent| (0..agent.rows.len()).all(|i| row_reply(&agent.rows, i) == ACCEPTED));
-        (unused_are_0 && rows_are_good).then_some(table)
+        (unused_are_0 && table.first_refused_row().is_none()).then_some(table)
     }
 }
 

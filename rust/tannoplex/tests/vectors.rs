@@ -28,7 +28,7 @@ fn traces_of_the_vectors() {
         assert!(rest.iter().all(|&byte| byte == b'*'), "{name}: written after the text");
         compared += 1;
     }
-    assert!(compared >= 212, "only {compared} vectors in {}", vectors.display());
+    assert!(compared >= 252, "only {compared} vectors in {}", vectors.display());
 }
 
 #[test]
@@ -53,5 +53,5 @@ fn tables_of_the_vectors_are_written_again() {
         assert!(rest.iter().all(|&byte| byte == b'*'), "{name}: written after the text");
         written += 1;
     }
-    assert!(written >= 70, "only {written} vectors have an accepted table");
+    assert!(written >= 100, "only {written} vectors have an accepted table");
 }
