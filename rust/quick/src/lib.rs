@@ -1,4 +1,4 @@
-//! Document 01, as change requests T-01 and T-02 leave it, in optimised Rust that does not allocate:
+//! Document 01, as change requests T-01 to T-03 leave it, in optimised Rust that does not allocate:
 //! what the benchmark measures the proved library against. `cases` compares it with the reference.
 //!
 //! It works on the lent words where they stand and tests many words without a branch for each. Its

@@ -1,7 +1,7 @@
 //! Frames: a table from text.
 
 use crate::reply::*;
-use crate::table::{first_bad_row, Table};
+use crate::table::Table;
 use crate::{AGENTS, ROWS, TABLE_WORDS};
 
 /// The first bytes that are known in a table.
@@ -110,31 +110,20 @@ fn lines(text: &[u8], words: &mut [u32; TABLE_WORDS]) -> Result<(), (u32, u32)> 
     unreachable!()
 }
 
-/// The first row that breaks one of 4 to 7, with its line: each agent has a line, and each row.
-fn rows_of(words: &[u32; TABLE_WORDS]) -> Result<(), (u32, u32)> {
-    let table = Table::of(words);
-    let mut line = 1;
-    for (a, &count) in table.counts[..table.agents].iter().enumerate() {
-        line += 1;
-        if let Some((reply, i)) = first_bad_row(&table.places(a)[..count as usize]) {
-            return Err((reply, line + i as u32));
-        }
-        line += count;
-    }
-    Ok(())
-}
-
 /// Reads a text into a lent table.
 pub fn read(text: &[u8], table: &mut [u32]) -> (u32, u32) {
     let Some(table) = table.first_chunk_mut() else {
         return (BUFFER_TOO_SHORT, 0);
     };
     let mut words = [0; TABLE_WORDS];
-    match lines(text, &mut words).and_then(|()| rows_of(&words)) {
-        Err(refusal) => refusal,
-        Ok(()) => {
-            *table = words;
-            (ACCEPTED, 0)
-        }
+    if let Err(refusal) = lines(text, &mut words) {
+        return refusal;
     }
+    // The rows of a good text are gone through once, and of another again for what is told.
+    let read = Table::of(&words);
+    if !read.is_good() {
+        return read.first_refusal().expect("a row is bad");
+    }
+    *table = words;
+    (ACCEPTED, 0)
 }

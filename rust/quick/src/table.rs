@@ -32,6 +32,7 @@ impl<'a> Table<'a> {
     }
 }
 
+const JUMP: u32 = 0x11;
 pub const SEND: u32 = 0x20;
 
 /// For each op below 64: the bits of its code word, and those of k, that must be 0.
@@ -62,54 +63,96 @@ fn has_bad_field([code, k, _, _]: Row) -> bool {
     }
 }
 
-fn has_bad_target([code, ..]: Row, i: usize, count: usize) -> bool {
-    i + 1 + (code & 0xFF) as usize > count
+/// The position p+1+n.
+fn target([code, ..]: Row, i: usize) -> usize {
+    i + 1 + (code & 0xFF) as usize
 }
 
 fn has_bad_window([_, _, early, late]: Row) -> bool {
     (early >= late) | (late > LAST_TIME)
 }
 
-fn goes_back([_, _, early, late]: Row, before: Row) -> bool {
-    (early < before[2]) | (late < before[3])
+/// Whether the early or late of a row is above that of one that it goes on to.
+fn goes_back([_, _, early, late]: Row, next: Row) -> bool {
+    (early > next[2]) | (late > next[3])
 }
 
 /// Whether each of an agent's rows keeps the rules 4 to 7.
+///
+/// Every row goes on at p+1+n, which is p+1 where it names no n, and all but a JUMP at p+1. So each
+/// is held against the row before it, unless that is a JUMP over it; and only one whose n is not 0
+/// has a target to be looked at.
+#[inline(always)]
 fn rows_are_good(rows: &[Row]) -> bool {
     let mut bad = false;
     let mut before = [0; 4];
     for (i, &row) in rows.iter().enumerate() {
-        bad |= has_bad_field(row)
-            | has_bad_target(row, i, rows.len())
-            | has_bad_window(row)
-            | goes_back(row, before);
+        bad |= has_bad_field(row) | has_bad_window(row) | goes_back(before, row);
         before = row;
+        if row[0] & 0xFF != 0 {
+            let at = target(row, i);
+            bad |= if at < rows.len() { goes_back(row, rows[at]) } else { at > rows.len() };
+            if row[0] >> 24 == JUMP {
+                before = [0; 4];
+            }
+        }
     }
     !bad
 }
 
-/// The first of 4 to 7 that an agent's rows break, and the row.
-pub fn first_bad_row(rows: &[Row]) -> Option<(u32, usize)> {
-    if rows_are_good(rows) {
-        return None;
+/// The first of 4 to 6 that a row breaks.
+fn row_refusal(rows: &[Row], i: usize) -> Option<u32> {
+    let row = rows[i];
+    if has_bad_field(row) {
+        Some(BAD_FIELD)
+    } else if target(row, i) > rows.len() {
+        Some(BAD_TARGET)
+    } else if has_bad_window(row) {
+        Some(BAD_WINDOW)
+    } else {
+        None
     }
-    let mut before = [0; 4];
-    for (i, &row) in rows.iter().enumerate() {
-        let reply = if has_bad_field(row) {
-            BAD_FIELD
-        } else if has_bad_target(row, i, rows.len()) {
-            BAD_TARGET
-        } else if has_bad_window(row) {
-            BAD_WINDOW
-        } else if goes_back(row, before) {
-            WINDOW_GOES_BACK
-        } else {
-            before = row;
-            continue;
-        };
-        return Some((reply, i));
+}
+
+/// 7 where a row goes on to an earlier one.
+fn window_refusal(rows: &[Row], i: usize) -> Option<u32> {
+    let row = rows[i];
+    let far = target(row, i);
+    let near = if row[0] >> 24 == JUMP { far } else { i + 1 };
+    let is_back = |at: usize| rows.get(at).is_some_and(|&next| goes_back(row, next));
+    (is_back(near) || is_back(far)).then_some(WINDOW_GOES_BACK)
+}
+
+impl<'a> Table<'a> {
+    /// The rows of each agent, where the counts are good.
+    fn rows_of_agents(self) -> impl Iterator<Item = &'a [Row]> {
+        let counts = self.counts[..self.agents].iter().enumerate();
+        counts.map(move |(a, &count)| &self.places(a)[..count as usize])
     }
-    None
+
+    /// Whether all rows keep the rules 4 to 7, where the counts are good.
+    pub fn is_good(self) -> bool {
+        self.rows_of_agents().all(rows_are_good)
+    }
+
+    /// The first row that is refused, and its line in the table's text, in which each agent has a
+    /// line and each row: with 4 to 6, or with 7 where no row is refused with these.
+    #[cold]
+    pub fn first_refusal(self) -> Option<(u32, u32)> {
+        for refusal in [row_refusal, window_refusal] {
+            let mut line = 1;
+            for rows in self.rows_of_agents() {
+                for i in 0..rows.len() {
+                    line += 1;
+                    if let Some(reply) = refusal(rows, i) {
+                        return Some((reply, line));
+                    }
+                }
+                line += 1;
+            }
+        }
+        None
+    }
 }
 
 /// The table of these words; none where they break a rule.
