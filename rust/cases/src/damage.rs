@@ -4,6 +4,7 @@ use reference::{Row, State, Table, AGENTS, LAST_TIME, ROWS, STATE_WORDS, TABLE_W
 
 use crate::layout;
 use crate::rng::Rng;
+use crate::ways::{is_reached, ways_of_rows, Way};
 
 /// A field of a row becomes wrong, at an edge, or only different.
 pub fn damage_row(rng: &mut Rng, row: &mut Row, before: Row) {
@@ -31,13 +32,57 @@ pub fn damage_row(rng: &mut Rng, row: &mut Row, before: Row) {
     }
 }
 
+/// A way of these rows on which one may go back: of each kind as often as of another, and mostly of a
+/// row that has n or that no path reaches, where there is one.
+fn any_way(rng: &mut Rng, rows: &[Row]) -> Option<(usize, usize)> {
+    let mut all = ways_of_rows(rows);
+    if rng.percent(20) && all.iter().any(|&(p, ..)| !is_reached(rows, p)) {
+        all.retain(|&(p, ..)| !is_reached(rows, p));
+    } else if rng.percent(80) && all.iter().any(|&(_, way, _)| way != Way::Next) {
+        all.retain(|&(_, way, _)| way != Way::Next);
+    }
+    let mut kinds = Way::ALL.to_vec();
+    kinds.retain(|kind| all.iter().any(|(_, way, _)| way == kind));
+    if kinds.is_empty() {
+        return None;
+    }
+    let kind = rng.pick(&kinds);
+    all.retain(|&(_, way, _)| way == kind);
+    let (p, _, position) = rng.pick(&all);
+    Some((p, position))
+}
+
+/// A row of an agent comes to go on to an earlier one, or just not: 7.
+pub fn damage_way(rng: &mut Rng, rows: &mut [Row]) {
+    let Some((p, position)) = any_way(rng, rows) else { return };
+    let (from, to) = (rows[p], rows[position]);
+    let below = |time: u32| time.saturating_sub(1);
+    let above = |time: u32| time.saturating_add(1);
+    match rng.below(9) {
+        0 | 1 => rows[position].early = below(from.early),
+        2 | 3 if to.early < below(from.late) => rows[position].late = below(from.late),
+        2..=4 => rows[p].late = above(to.late),
+        5 if above(to.early) < from.late => rows[p].early = above(to.early),
+        5..=7 => {
+            (rows[position].early, rows[position].late) = (below(from.early), below(from.late));
+        }
+        _ => (rows[position].early, rows[position].late) = (from.early, from.late),
+    }
+}
+
+/// The words of a row.
+fn row_words(row: Row) -> [u32; layout::ROW_WORDS] {
+    let code = u32::from_be_bytes([row.op, row.x, row.y, row.n]);
+    [code, row.k, row.early, row.late]
+}
+
 /// Damage to the words of this table.
 pub fn damage_table(rng: &mut Rng, table: &Table, words: &mut [u32]) {
     let agents = table.agents.len();
     let a = rng.below(agents);
     let count = table.agents[a].rows.len();
     let unused_agent = agents..AGENTS;
-    match rng.below(12) {
+    match rng.below(16) {
         0 => {
             let agents = agents as u32;
             words[layout::AGENT_COUNT] =
@@ -73,15 +118,23 @@ pub fn damage_table(rng: &mut Rng, table: &Table, words: &mut [u32]) {
             words[at] ^= 1 << rng.below(32);
         }
         6 => words[rng.below(TABLE_WORDS)] = rng.word(),
+        7..=10 => {
+            let branching: Vec<usize> = (0..agents)
+                .filter(|&a| table.agents[a].rows.iter().any(|row| row.n != 0))
+                .collect();
+            let a = if branching.is_empty() { a } else { rng.pick(&branching) };
+            let mut rows = table.agents[a].rows.clone();
+            damage_way(rng, &mut rows);
+            let all: Vec<u32> = rows.into_iter().flat_map(row_words).collect();
+            words[layout::row(a, 0)..][..all.len()].copy_from_slice(&all);
+        }
         _ => {
             let i = rng.below(count);
             let rows = &table.agents[a].rows;
             let before = if i > 0 { rows[i - 1] } else { Row::default() };
             let mut row = rows[i];
             damage_row(rng, &mut row, before);
-            let code = u32::from_be_bytes([row.op, row.x, row.y, row.n]);
-            words[layout::row(a, i)..][..layout::ROW_WORDS]
-                .copy_from_slice(&[code, row.k, row.early, row.late]);
+            words[layout::row(a, i)..][..layout::ROW_WORDS].copy_from_slice(&row_words(row));
         }
     }
 }

@@ -13,6 +13,7 @@ pub mod rng;
 pub mod suite;
 pub mod tables;
 pub mod texts;
+pub mod ways;
 
 pub use board::Board;
 pub use counts::Counts;

@@ -2,7 +2,8 @@
 
 use std::fmt;
 
-use reference::reply::{ACCEPTED, TEXT_TOO_LONG};
+use reference::reader::lines;
+use reference::reply::{ACCEPTED, BAD_TABLE, TEXT_TOO_LONG};
 use reference::trace::split_table;
 use reference::{State, Table, STATE_WORDS, TABLE_WORDS};
 
@@ -213,7 +214,7 @@ fn written_and_read(
     same("read of what was written", &(ACCEPTED, 0), &told)
         .and_then(|()| same_memory("the table read again", &expected, &got))
         .map_err(|what| format!("{what}\ntable: {}", listed(words)))?;
-    counts.written(kind);
+    counts.written(kind, words);
     Ok(())
 }
 
@@ -250,6 +251,9 @@ fn read_case(rng: &mut Rng, board: &dyn Board, counts: &mut Counts) -> Outcome<L
             _ => Ok(()),
         });
     counts.reply(Call::Read, told.0);
+    if let (4..=7, Ok(read)) = (told.0, lines(lent)) {
+        counts.rows_read(&read.table);
+    }
     outcome.map_err(|what| format!("{what}\ntext:\n{}", String::from_utf8_lossy(lent)))?;
     Ok(got)
 }
@@ -272,6 +276,9 @@ fn check_case(rng: &mut Rng, board: &dyn Board, counts: &mut Counts) -> Outcome<
     let outcome = same("reply", &reply, &board.check(lent.words()))
         .and_then(|()| same_memory("the table", &before, &lent));
     counts.reply(Call::Check, reply);
+    if reply == BAD_TABLE {
+        Table::decoded(lent.words()).iter().for_each(|table| counts.rows_checked(table));
+    }
     outcome.map_err(|what| format!("{what}\ntable: {}", listed(before.words())))?;
     Ok(lent)
 }

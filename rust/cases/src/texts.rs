@@ -3,7 +3,7 @@
 use reference::{Row, Table};
 
 use crate::choices::Choice;
-use crate::damage::damage_row;
+use crate::damage::{damage_row, damage_way};
 use crate::lines::damage_text;
 use crate::rng::Rng;
 
@@ -65,9 +65,11 @@ pub fn damaged(rng: &mut Rng, table: &Table) -> Vec<u8> {
     let mut lines = lines(table);
     let mut text = None;
     for _ in 0..rng.pick(&[1, 1, 1, 2, 3]) {
-        match rng.below(11) {
+        match rng.below(16) {
             0..=3 => damage_one_row(rng, &mut lines),
             4..=6 => damage_order(rng, &mut lines),
+            7..=9 => drop(damage_one_way(rng, &mut lines)),
+            10 | 11 => damage_way_and_row(rng, &mut lines),
             _ => {
                 let mut bytes = text.take().unwrap_or_else(|| written(&lines));
                 damage_text(rng, &mut bytes);
@@ -78,10 +80,14 @@ pub fn damaged(rng: &mut Rng, table: &Table) -> Vec<u8> {
     text.unwrap_or_else(|| written(&lines))
 }
 
-/// A field of one row becomes wrong, or only different: 4 to 7.
+/// Where rows stand among these lines.
+fn places_of_rows(lines: &[Line]) -> Vec<usize> {
+    (0..lines.len()).filter(|&i| matches!(lines[i], Line::Row(..))).collect()
+}
+
+/// A field of one row becomes wrong, or only different: 4 to 6, seldom 7.
 fn damage_one_row(rng: &mut Rng, lines: &mut [Line]) {
-    let rows: Vec<usize> =
-        (0..lines.len()).filter(|&i| matches!(lines[i], Line::Row(..))).collect();
+    let rows = places_of_rows(lines);
     if rows.is_empty() {
         return;
     }
@@ -92,6 +98,57 @@ fn damage_one_row(rng: &mut Rng, lines: &mut [Line]) {
     };
     if let Line::Row(_, row) = &mut lines[at] {
         damage_row(rng, row, before);
+    }
+}
+
+/// A row comes to go on to an earlier one of the rows around it: 7. Gives the line after these rows.
+fn damage_one_way(rng: &mut Rng, lines: &mut [Line]) -> usize {
+    let mut places = places_of_rows(lines);
+    let has_n = |at: usize| matches!(&lines[at], Line::Row(_, row) if row.n != 0);
+    if places.iter().any(|&at| has_n(at)) {
+        places.retain(|&at| has_n(at));
+    }
+    if places.is_empty() {
+        return lines.len();
+    }
+    let at = rng.pick(&places);
+    let is_row = |line: &Line| matches!(line, Line::Row(..));
+    let begin = lines[..at].iter().rposition(|line| !is_row(line)).map_or(0, |i| i + 1);
+    let end = lines[at..].iter().position(|line| !is_row(line)).map_or(lines.len(), |i| at + i);
+    let mut rows: Vec<&mut Row> = lines[begin..end]
+        .iter_mut()
+        .filter_map(|line| match line {
+            Line::Row(_, row) => Some(row),
+            _ => None,
+        })
+        .collect();
+    let mut damaged: Vec<Row> = rows.iter().map(|row| **row).collect();
+    damage_way(rng, &mut damaged);
+    rows.iter_mut().zip(damaged).for_each(|(row, damaged)| **row = damaged);
+    end
+}
+
+/// A row comes to go on to an earlier one, and another row, mostly a later one of this agent or
+/// another, is refused with 4, 5 or 6, which is told before.
+fn damage_way_and_row(rng: &mut Rng, lines: &mut [Line]) {
+    let end = damage_one_way(rng, lines);
+    let mut places = places_of_rows(lines);
+    let is_of_another = rng.percent(50);
+    if places.iter().any(|&at| at >= end) && is_of_another {
+        places.retain(|&at| at >= end);
+    } else {
+        // The last rows of the same agent.
+        places.retain(|&at| at < end && at + 3 >= end);
+    }
+    if places.is_empty() {
+        return;
+    }
+    if let Line::Row(_, row) = &mut lines[rng.pick(&places)] {
+        match rng.below(3) {
+            0 => row.y = 4,
+            1 => *row = Row { op: 0x11, n: 31, early: row.early, late: row.late, ..Row::default() },
+            _ => row.early = row.late,
+        }
     }
 }
 

@@ -4,6 +4,7 @@
 mod faulty;
 
 use cases::suite::Kind;
+use cases::ways::Way;
 use cases::{compare, layout, Board, Plan};
 use faulty::{is_found, line_of, Faulty, Quick, GOOD};
 use reference::trace::INPUT_BYTES;
@@ -18,7 +19,7 @@ fn the_optimised_implementation_passes_and_the_floors_are_met() {
 
 #[test]
 fn the_narrow_search_passes() {
-    let board = Faulty { step: &quick::step_narrow, run: quick::run_narrow, ..GOOD };
+    let board = Faulty { step: &quick::step_narrow, run: &quick::run_narrow, ..GOOD };
     let plan = Plan(vec![(Kind::Step, 20_000), (Kind::LongRun, 10_000)]);
     compare(&board, &plan, 2).unwrap_or_else(|failure| panic!("{failure}"));
 }
@@ -29,8 +30,14 @@ fn a_comparison_of_nothing_is_below_every_floor() {
     let short = counts.below_floors();
     assert!(short.len() > 20);
     for kind in Kind::ALL {
-        let what = format!("tables of {kind:?} cases written and read again: 0, ");
-        assert!(short.iter().any(|told| told.starts_with(&what)), "no floor: {what}");
+        for what in ["written and read again", "that document 01 refused with 7"] {
+            let what = format!("tables of {kind:?} cases {what}: 0, ");
+            assert!(short.iter().any(|told| told.starts_with(&what)), "no floor: {what}");
+        }
+    }
+    for way in Way::ALL {
+        let what = format!("the way {way:?}");
+        assert_eq!(short.iter().filter(|told| told.contains(&what)).count(), 6, "floors: {what}");
     }
 }
 
@@ -80,7 +87,7 @@ fn faults_of_the_check_are_found() {
         }
         quick::check(&table)
     };
-    is_found("leaves an unused word", &Faulty { check: unused, ..GOOD }, Kind::Check);
+    is_found("leaves an unused word", &Faulty { check: &unused, ..GOOD }, Kind::Check);
     let million = |table: &[u32]| {
         let mut table = table.to_vec();
         let first = layout::row(0, 0) + layout::ROW_LATE;
@@ -91,7 +98,7 @@ fn faults_of_the_check_are_found() {
         }
         quick::check(&table)
     };
-    is_found("takes late 1,000,001", &Faulty { check: million, ..GOOD }, Kind::Check);
+    is_found("takes late 1,000,001", &Faulty { check: &million, ..GOOD }, Kind::Check);
 }
 
 #[test]
@@ -114,7 +121,7 @@ fn faults_of_the_run_are_found() {
         let (reply, count) = quick::run(table, state, &choices[..first]);
         (reply, if reply == 0 { choices.len() as u32 / 2 } else { count })
     };
-    is_found("does the first step and echoes", &Faulty { run: echo, ..GOOD }, Kind::Run);
+    is_found("does the first step and echoes", &Faulty { run: &echo, ..GOOD }, Kind::Run);
     let keep = |table: &[u32], state: &mut [u32], choices: &[u32]| {
         let before = state.to_vec();
         let (reply, count) = quick::run(table, state, choices);
@@ -123,7 +130,7 @@ fn faults_of_the_run_are_found() {
         }
         (reply, count)
     };
-    is_found("leaves the state untouched at 15", &Faulty { run: keep, ..GOOD }, Kind::Run);
+    is_found("leaves the state untouched at 15", &Faulty { run: &keep, ..GOOD }, Kind::Run);
     // The value of the message found depends on the order of the choices.
     let order = |table: &[u32], state: &mut [u32], choices: &[u32]| {
         let ran = quick::run(table, state, choices);
@@ -132,7 +139,7 @@ fn faults_of_the_run_are_found() {
         }
         ran
     };
-    is_found("depends on the order", &Faulty { run: order, ..GOOD }, Kind::Pair);
+    is_found("depends on the order", &Faulty { run: &order, ..GOOD }, Kind::Pair);
 }
 
 #[test]

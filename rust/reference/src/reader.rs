@@ -45,15 +45,15 @@ fn frame(bytes: &[u8]) -> Frame {
 /// A reply and the line that it is told with.
 pub type Refusal = (u32, u32);
 
-/// What the lines gave, with the line of each row.
+/// What the lines gave, whatever the rows are, with the line of each row.
 #[derive(Default)]
-struct Lines {
-    table: Table,
-    row_lines: Vec<Vec<u32>>,
+pub struct Lines {
+    pub table: Table,
+    pub row_lines: Vec<Vec<u32>>,
 }
 
 /// Reads all lines for 2, 18, 19 and 3.
-fn lines(text: &[u8]) -> Result<Lines, Refusal> {
+pub fn lines(text: &[u8]) -> Result<Lines, Refusal> {
     let mut read = Lines::default();
     let mut left = text;
     let mut line = 1;

@@ -158,8 +158,9 @@ impl Table {
         words
     }
 
-    /// The table that these words hold; none where they break a rule.
-    pub fn from_words(words: &[u32]) -> Option<Table> {
+    /// The table in these words, whatever its rows are; none where a count is not good or an unused
+    /// word is not 0.
+    pub fn decoded(words: &[u32]) -> Option<Table> {
         let agent_count = words[0] as usize;
         if agent_count == 0 || agent_count > AGENTS {
             return None;
@@ -179,7 +180,12 @@ impl Table {
         }
         // What was not decoded is unused: encoding gives 0 there, so a difference is a word not 0.
         let unused_are_0 = table.to_words() == words[..TABLE_WORDS];
-        (unused_are_0 && table.first_refused_row().is_none()).then_some(table)
+        unused_are_0.then_some(table)
+    }
+
+    /// The table that these words hold; none where they break a rule.
+    pub fn from_words(words: &[u32]) -> Option<Table> {
+        Table::decoded(words).filter(|table| table.first_refused_row().is_none())
     }
 }
 

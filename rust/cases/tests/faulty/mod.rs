@@ -35,23 +35,26 @@ impl Board for Quick {
 pub type Told = (u32, u32);
 
 type Step<'f> = dyn Fn(&[u32], &mut [u32], u32, u32) -> u32 + 'f;
+type Run<'f> = dyn Fn(&[u32], &mut [u32], &[u32]) -> Told + 'f;
 
 /// A board with one fault, laid over the good one.
 pub struct Faulty<'f> {
     pub read: &'f dyn Fn(&[u8], &mut [u32]) -> Told,
     pub write: &'f dyn Fn(&[u32], &mut [u8]) -> Told,
-    pub check: fn(&[u32]) -> u32,
+    pub check: &'f dyn Fn(&[u32]) -> u32,
+    pub start: &'f dyn Fn(&[u32], &mut [u32]) -> u32,
     pub step: &'f Step<'f>,
-    pub run: fn(&[u32], &mut [u32], &[u32]) -> Told,
+    pub run: &'f Run<'f>,
     pub trace: &'f dyn Fn(&[u8]) -> Vec<u8>,
 }
 
 pub const GOOD: Faulty = Faulty {
     read: &quick::read,
     write: &quick::write,
-    check: quick::check,
+    check: &quick::check,
+    start: &quick::start,
     step: &quick::step,
-    run: quick::run,
+    run: &quick::run,
     trace: &|input| Quick.trace(input),
 };
 
@@ -66,7 +69,7 @@ impl Board for Faulty<'_> {
         (self.check)(table)
     }
     fn start(&self, table: &[u32], state: &mut [u32]) -> u32 {
-        quick::start(table, state)
+        (self.start)(table, state)
     }
     fn step(&self, table: &[u32], state: &mut [u32], agent: u32, time: u32) -> u32 {
         (self.step)(table, state, agent, time)
