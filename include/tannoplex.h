@@ -66,6 +66,13 @@
  *   30 RECV x, k, n  message found: x becomes its value, on at p+1; none: on at p+1+n
  *   A RECV finds the messages of its number whose row's late is below its own early; of several
  *   the one of the greatest late, then of the lower agent, then of the higher row.
+ *   Rows not said otherwise go on at p+1, and no target is above the row count, which is the end.
+ *
+ * Windows
+ *   Early is below late, and late at most TANNOPLEX_LAST_TIME. A row's early and late are each not
+ *   above those of every row that it can go on to: of two rows where it is a SKIP or a RECV, and
+ *   also where no run comes to it. The end has no window. So two arms of a branch may share the
+ *   same time, whichever of them comes first in the table.
  */
 #ifndef TANNOPLEX_H
 #define TANNOPLEX_H
@@ -79,9 +86,9 @@ extern "C" {
 
 /* The version: the numbers for #if, and the text of them. CHANGELOG.md says what each brought. */
 #define TANNOPLEX_VERSION_MAJOR 0
-#define TANNOPLEX_VERSION_MINOR 4
+#define TANNOPLEX_VERSION_MINOR 5
 #define TANNOPLEX_VERSION_PATCH 0
-#define TANNOPLEX_VERSION "0.4.0"
+#define TANNOPLEX_VERSION "0.5.0"
 
 /* Sizes. */
 #define TANNOPLEX_TABLE_WORDS 2129
@@ -178,7 +185,7 @@ extern "C" {
                                            field not 0 */
 #define TANNOPLEX_BAD_TARGET 5          /* a target above the row count */
 #define TANNOPLEX_BAD_WINDOW 6          /* early not below late, or late above 1,000,000 */
-#define TANNOPLEX_WINDOW_GOES_BACK 7    /* early or late below that of the row before */
+#define TANNOPLEX_WINDOW_GOES_BACK 7    /* early or late above that of a row that it goes on to */
 #define TANNOPLEX_BAD_TABLE 8           /* the table words break a rule */
 #define TANNOPLEX_BAD_STATE 9           /* the state words do not fit the table */
 #define TANNOPLEX_NO_SUCH_AGENT 10      /* no such agent */
@@ -222,8 +229,10 @@ typedef struct { uint32_t reply; size_t length; } tannoplex_traced;
  * with it; one of digits alone with 18 where it begins as one of these three and is not as long (36,
  * 36 and 2 digits), and with 19 where it begins otherwise or has fewer than two digits; a good one
  * that is out of place with 3. What follows the end line is not looked at: it is 3.
- * Replies: 1; then 2, 18, 19 or 3 for the earliest line; then 4, 5, 6 or 7 for the first row in
- * order. Where it is accepted all words of the table are written.
+ * Replies: 1; then 2, 18, 19 or 3 for the earliest line; then 4, 5 or 6 for the first row of all;
+ * then, where no row of any agent has one of these, 7 for the first row that goes on to an earlier
+ * one, told with its own line and not that of the other. Where it is accepted all words of the table
+ * are written.
  */
 tannoplex_told tannoplex_read(const uint8_t *text, size_t text_len, uint32_t *table,
                               size_t table_len);

@@ -12,7 +12,7 @@ static const char *const texts[] = {
     /* 4 */ "unknown op, register above 3, n above 31, or an unused field not 0",
     /* 5 */ "a target above the row count",
     /* 6 */ "early not below late, or late above 1,000,000",
-    /* 7 */ "early or late below that of the row before",
+    /* 7 */ "early or late above that of a row that it goes on to",
     /* 8 */ "the table words break a rule",
     /* 9 */ "the state words do not fit the table",
     /* 10 */ "no such agent",

@@ -1,6 +1,7 @@
 /*
- * Each call once accepted and once refused, a read by each refusal of a line's form, a write by each
- * of its refusals, through the header: that its names, types and results are those of the archive.
+ * Each call once accepted and once refused, a read by each refusal of a line's form, two arms of a
+ * branch in one time and rows that go back, a write by each of its refusals, through the header:
+ * that its names, types and results are those of the archive.
  * Prints one line, or fails at the first difference.
  */
 #include <stdio.h>
@@ -16,7 +17,23 @@
     "0301010000000400000000000000050000000000000000\n"                                             \
     "FE000002\n"
 
+/* A SKIP over one arm, which ends with a JUMP over the other; the other is earlier. */
+#define ARMS                                                                                       \
+    "000000000000000000000000000000000000\n"                                                       \
+    "010010000002000000000000000100000003\n"                                                       \
+    "010000000000000000010000000500000008\n"                                                       \
+    "010011000001000000000000000500000008\n"                                                       \
+    "010000000000000000020000000200000004\n"                                                       \
+    "FF\n"
+/* Document 01's case P12: early 4 and then 3. */
+#define GOES_BACK                                                                                  \
+    "000000000000000000000000000000000000\n"                                                       \
+    "010000000000000000010000000400000009\n"                                                       \
+    "010000000000000000010000000300000009\n"                                                       \
+    "FF\n"
+
 static const uint8_t text[] = TABLE, input[] = TABLE CHOICES, long_end[] = "FF00\n";
+static const uint8_t arms[] = ARMS, goes_back[] = GOES_BACK;
 static const uint32_t choices[] = {0, 3, 1, 4, 1, 4};
 static uint32_t table[TANNOPLEX_TABLE_WORDS], again[TANNOPLEX_TABLE_WORDS];
 static uint32_t state[TANNOPLEX_STATE_WORDS], stepped[TANNOPLEX_STATE_WORDS];
@@ -43,6 +60,27 @@ static int are_kept(const uint8_t *bytes, size_t count)
         count--;
     }
     return count == 0;
+}
+
+/* Windows over what a row goes on to: 7 is for the row that goes on, and 8 follows. */
+static void test_windows(void)
+{
+    const size_t words = TANNOPLEX_TABLE_WORDS;
+    tannoplex_told told = tannoplex_read(goes_back, sizeof goes_back - 1, again, words);
+    expect(told.reply == TANNOPLEX_WINDOW_GOES_BACK && told.line == 2, "read, early 4 and then 3");
+    told = tannoplex_read(arms, sizeof arms - 1, again, words);
+    expect(told.reply == TANNOPLEX_ACCEPTED && told.line == 0, "read, two arms in one time");
+    expect(tannoplex_check(again, words) == TANNOPLEX_ACCEPTED, "check, two arms in one time");
+
+    /* Register 0 is 0, so the SKIP goes on to the second arm. */
+    static const uint32_t second_arm[] = {0, 1, 0, 4};
+    tannoplex_ran ran = tannoplex_run(again, words, state, TANNOPLEX_STATE_WORDS, second_arm, 4);
+    expect(ran.reply == TANNOPLEX_ACCEPTED && ran.count == 2 &&
+               state[TANNOPLEX_STATE_REGISTER(0, 0)] == 2,
+           "run, the second arm before the time of the first");
+
+    again[TANNOPLEX_TABLE_ROW(0, 3) + TANNOPLEX_ROW_EARLY] = 0;
+    expect(tannoplex_check(again, words) == TANNOPLEX_BAD_TABLE, "check, an arm before its SKIP");
 }
 
 /* The table that was read, written out again. */
@@ -107,6 +145,7 @@ int main(void)
                row[TANNOPLEX_ROW_K] == 7 && row[TANNOPLEX_ROW_EARLY] == 4 &&
                row[TANNOPLEX_ROW_LATE] == 8,
            "the places of a row in the table");
+    test_windows();
     test_write();
 
     expect(tannoplex_check(table, words - 1) == TANNOPLEX_BUFFER_TOO_SHORT, "check, too short");

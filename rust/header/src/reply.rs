@@ -21,7 +21,7 @@ pub enum Reply {
     BadTarget = 5,
     /// 6: early not below late, or late above 1,000,000.
     BadWindow = 6,
-    /// 7: early or late below that of the row before.
+    /// 7: early or late above that of a row that it goes on to.
     WindowGoesBack = 7,
     /// 8: the table words break a rule.
     BadTable = 8,
@@ -112,7 +112,7 @@ impl fmt::Display for Reply {
             Reply::BadField => "unknown op, register above 3, n above 31, or an unused field not 0",
             Reply::BadTarget => "a target above the row count",
             Reply::BadWindow => "early not below late, or late above 1,000,000",
-            Reply::WindowGoesBack => "early or late below that of the row before",
+            Reply::WindowGoesBack => "early or late above that of a row that it goes on to",
             Reply::BadTable => "the table words break a rule",
             Reply::BadState => "the state words do not fit the table",
             Reply::NoSuchAgent => "no such agent",
