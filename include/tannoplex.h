@@ -64,9 +64,9 @@
  *   11 JUMP n        go on at p+1+n
  *   20 SEND x, k     the value of x is sent under message number k
  *   30 RECV x, k, n  message found: x becomes its value, on at p+1; none: on at p+1+n
+ *   All other rows go on at p+1. No target is above the row count, which is the end.
  *   A RECV finds the messages of its number whose row's late is below its own early; of several
  *   the one of the greatest late, then of the lower agent, then of the higher row.
- *   Rows not said otherwise go on at p+1, and no target is above the row count, which is the end.
  *
  * Windows
  *   Early is below late, and late at most TANNOPLEX_LAST_TIME. A row's early and late are each not

@@ -261,3 +261,29 @@ pub fn fitting_state(rng: &mut Rng, table: &Table) -> State {
     };
     state
 }
+
+#[cfg(test)]
+mod tests {
+    use super::*;
+    use crate::ways::has_earlier_row_below;
+    use reference::{fits, ROWS};
+
+    #[test]
+    fn tables_are_accepted_and_states_fit_them() {
+        let rng = &mut Rng::new(1);
+        for size in [Size::Small, Size::Any, Size::Long] {
+            let mut shared = 0;
+            let mut full = 0;
+            for _ in 0..1_000 {
+                let table = table(rng, size);
+                assert_eq!(Table::from_words(&table.to_words()), Some(table.clone()));
+                assert!(fits(&table, &fitting_state(rng, &table).to_words()));
+                shared += usize::from(has_earlier_row_below(&table));
+                let rows: usize = table.agents.iter().map(|agent| agent.rows.len()).sum();
+                full += usize::from(rows == AGENTS * ROWS);
+            }
+            assert!((200..800).contains(&shared), "{shared} of 1,000 share a time");
+            assert!(full > 0 || size != Size::Any, "no table of the most rows");
+        }
+    }
+}

@@ -85,7 +85,7 @@ fn places_of_rows(lines: &[Line]) -> Vec<usize> {
     (0..lines.len()).filter(|&i| matches!(lines[i], Line::Row(..))).collect()
 }
 
-/// A field of one row becomes wrong, or only different: 4 to 6, seldom 7.
+/// A field of one row becomes wrong, or only different: 4 to 7.
 fn damage_one_row(rng: &mut Rng, lines: &mut [Line]) {
     let rows = places_of_rows(lines);
     if rows.is_empty() {
