@@ -2,7 +2,8 @@
 use mathlib.Core.Path.{_≡_, refl, sym, ap, subst}
 use mathlib.Core.Bool.{Bool, true, false, not, cond}
 use mathlib.Core.List.{List, [], _∷_}
-use Prim.Native.Nat.{ℕ, zero, suc, _+_, _*_, _≤_}
+use Prim.Native.Nat.{ℕ, zero, suc, _+_, _*_, _≤_, _<_}
+use native.Mathlib.Decide.{ℕ-discrete}
 use native.Mathlib.Omega.{arith}
 use lib.Dec.{T, eqb, leb, ltb, leb→le}
 use lib.ListN.{length}
@@ -11,8 +12,9 @@ use Rattle.tables.specs.Basics.{first, _⇒_, Rule}
 use Rattle.tables.specs.Rows.{rowReply}
 use Rattle.tables.specs.Faults.{faultReply}
 use Rattle.tables.specs.Frames.{Frame, opens, gives, ends, malformed, framesOf}
-use Rattle.reading.specs.Reader.{told, noneLeft, endRules, toldBy, inPlace, rowsNext, rowIn, rowsGood, framesReply}
-use Rattle.tables.specs.Layout.{tableWords}
+use Rattle.reading.specs.Reader.{told, noneLeft, endRules, toldBy, inPlace, rowsNext, rowIn, rowsGood, rowsClimb, firstTold, agentsClimb, tableClimbs, framesReply, tableOf}
+use Rattle.tables.specs.Layout.{agents, rows, tableWords}
+use Rattle.tables.specs.Table.{climbs}
 use Rattle.reading.specs.Calls.{Read, ReadOutcome, readInto}
 use Rattle.tables.specs.declared.Row.{Row}
 use Rattle.reading.specs.declared.Told.{Told}
@@ -20,7 +22,8 @@ use Rattle.tables.proofs.Judging.{fault-small}
 use Rattle.reading.proofs.Places.{mayOpen, mayGive, open-room, give-room, place-open, place-open-not, place-give, place-give-not, place-end, place-end-not}
 use Rattle.reading.proofs.Accepted.{Placed, placed-first, open-on, give-on}
 use Rattle.reading.proofs.RowsRead.{good-row, bad-row}
-use Rattle.reading.proofs.Outcomes.{misplaced, in-places, short-table, read-told}
+use Rattle.reading.proofs.Outcomes.{told-then, told-first, short-table, read-told}
+use Rattle.reading.proofs.ReadGood.{rows-facts}
 
 pub record SmallTold (t : Told) : Type 0 where
   pub reply : t .reply ≤ 19
@@ -68,39 +71,69 @@ first-small ((b ⇒ r) ∷ rs) h = go b (leb r 7) refl h (first-small rs)
     go false true e k rec = rec k
     go t false e k rec = let z : _≡_ {A = ℕ} 0 1 = cc in absurd (omega arith)
 
-row-small : (r : Row) (i c e l : ℕ) → rowReply r i c e l ≤ 7
+row-small : (r : Row) (i c : ℕ) → rowReply r i c ≤ 7
 unfolding rowReply
-row-small r i c e l = first-small _ refl
+row-small r i c = first-small _ refl
 
-rows-small : (fs : List Frame) (n a c i e l : ℕ) → Placed n a i fs → SmallTold (rowsGood n c i e l fs)
+rows-small : (fs : List Frame) (n a c i : ℕ) → Placed n a i fs → SmallTold (rowsGood n c i fs)
 unfolding rowsGood
-rows-small [] n a c i e l q = small 0 0 (omega arith) (omega arith)
-rows-small (malformed w ∷ fs) n a c i e l q = small 0 0 (omega arith) (omega arith)
-rows-small (ends ∷ fs) n a c i e l q = small 0 0 (omega arith) (omega arith)
-rows-small (opens b ws ∷ fs) n a c i e l q = rows-small fs (n + 1) (a + 1) (rowsNext fs) 0 0 0 (open-on n a i b ws fs q)
-rows-small (gives b ws ∷ fs) n a c i e l q =
-    go (rowReply (rowIn ws) i c e l) refl (rows-small fs (n + 1) a c (i + 1) (rowIn ws .early) (rowIn ws .late) (give-on n a i b ws fs q))
+rows-small [] n a c i q = small 0 0 (omega arith) (omega arith)
+rows-small (malformed w ∷ fs) n a c i q = small 0 0 (omega arith) (omega arith)
+rows-small (ends ∷ fs) n a c i q = small 0 0 (omega arith) (omega arith)
+rows-small (opens b ws ∷ fs) n a c i q = rows-small fs (n + 1) (a + 1) (rowsNext fs) 0 (open-on n a i b ws fs q)
+rows-small (gives b ws ∷ fs) n a c i q =
+    go (rowReply (rowIn ws) i c) refl (rows-small fs (n + 1) a c (i + 1) (give-on n a i b ws fs q))
   where
-    go : (r : ℕ) → rowReply (rowIn ws) i c e l ≡ r → SmallTold (rowsGood (n + 1) c (i + 1) (rowIn ws .early) (rowIn ws .late) fs)
-        → SmallTold (rowsGood n c i e l (gives b ws ∷ fs))
-    go zero h rec = subst SmallTold (sym (good-row n c i e l b ws fs h)) rec
+    go : (r : ℕ) → rowReply (rowIn ws) i c ≡ r → SmallTold (rowsGood (n + 1) c (i + 1) fs)
+        → SmallTold (rowsGood n c i (gives b ws ∷ fs))
+    go zero h rec = subst SmallTold (sym (good-row n c i b ws fs h)) rec
     go (suc r) h rec =
-        let m = row-small (rowIn ws) i c e l in
+        let m = row-small (rowIn ws) i c in
         let k = q .line in
         let a = q .agents in
         let j = q .rows in
-        subst SmallTold (sym (bad-row n c i e l b ws fs (suc r) h (λ z. omega arith))) (small (suc r) n (omega arith) (omega arith))
+        subst SmallTold (sym (bad-row n c i b ws fs (suc r) h (λ z. omega arith))) (small (suc r) n (omega arith) (omega arith))
 
-pub frames-small : (fs : List Frame) → SmallTold (framesReply fs)
-frames-small fs = go (inPlace 1 0 0 fs .reply) refl
+-- the first of two
+either-small : (t u : Told) → SmallTold t → (t .reply ≡ 0 → SmallTold u) → SmallTold (firstTold t u)
+either-small t u h k = go (ℕ-discrete (t .reply) 0)
   where
-    go : (r : ℕ) → inPlace 1 0 0 fs .reply ≡ r → SmallTold (framesReply fs)
-    go zero h = subst SmallTold (sym (in-places fs h)) (rows-small fs 1 0 0 0 0 0 (placed-first fs h))
-    go (suc r) h = subst SmallTold (sym (misplaced fs (suc r) h (λ z. omega arith))) (place-small fs 1 0 0 (omega arith) (omega arith) (omega arith))
+    go : Dec (t .reply ≡ 0) → SmallTold (firstTold t u)
+    go (yes e) = subst SmallTold (sym (told-then t u e)) (k e)
+    go (no n) = subst SmallTold (sym (told-first t u n)) h
+
+-- 7, of agents with 32 rows at most
+module _ (tb : List ℕ) where
+  rows-climb-small : (k n a i : ℕ) → n + k ≤ 562 → SmallTold (rowsClimb tb n a i k)
+  unfolding rowsClimb
+  rows-climb-small zero n a i h = small 0 0 (omega arith) (omega arith)
+  rows-climb-small (suc k) n a i h = go (climbs tb a i) (rows-climb-small k (n + 1) a (i + 1) (omega arith))
+    where
+      go : (b : Bool) → SmallTold (rowsClimb tb (n + 1) a (i + 1) k) → SmallTold (elim b as (λ _. Told) [ true ↦ rowsClimb tb (n + 1) a (i + 1) k | false ↦ told 7 n ])
+      go true rec = rec
+      go false rec = small 7 n (omega arith) (omega arith)
+
+  agents-climb-small : ((b : ℕ) → b < agents tb → rows tb b ≤ 32) → agents tb ≤ 16 → (m n a : ℕ) → a + m ≡ agents tb → n ≤ 33 * a + 1 → SmallTold (agentsClimb tb n a m)
+  unfolding agentsClimb
+  agents-climb-small few most zero n a e h = small 0 0 (omega arith) (omega arith)
+  agents-climb-small few most (suc m) n a e h =
+      let c = few a (omega arith) in
+      either-small _ _ (rows-climb-small (rows tb a) (n + 1) a 0 (omega arith))
+      (λ z. agents-climb-small few most m (n + 1 + rows tb a) (a + 1) (omega arith) (omega arith))
+
+frames-small : (text : List ℕ) → SmallTold (framesReply (framesOf text))
+unfolding framesReply tableClimbs
+frames-small text =
+    let fs = framesOf text in
+    either-small _ _ (place-small fs 1 0 0 (omega arith) (omega arith) (omega arith))
+    (λ p. either-small _ _ (rows-small fs 1 0 0 0 (placed-first fs p))
+    (λ z.
+    let f = rows-facts text p z in
+    agents-climb-small (tableOf fs) (λ b h. f .each-agent b h .rows-few) (f .few-agents) (agents (tableOf fs)) 1 0 (omega arith) (omega arith)))
 
 pub read-small : (text tb : List ℕ) (t : Told) (after : List ℕ) → Read text tb t after → SmallTold t
 read-small text tb t after r = subst SmallTold (sym (ap (λ (o : ReadOutcome). o .told) r)) (go (ltb (length tb) tableWords) refl)
   where
     go : (b : Bool) → ltb (length tb) tableWords ≡ b → SmallTold (readInto text tb .told)
     go true e = subst SmallTold (ap (λ (o : ReadOutcome). o .told) (short-table text tb (ltb-true _ _ e))) (small 1 0 (omega arith) (omega arith))
-    go false e = subst SmallTold (sym (read-told text tb (ltb-false _ _ e))) (frames-small (framesOf text))
+    go false e = subst SmallTold (sym (read-told text tb (ltb-false _ _ e))) (frames-small text)

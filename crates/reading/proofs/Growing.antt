@@ -2,14 +2,12 @@
 use mathlib.Core.Path.{_≡_, refl, ap, _∙_}
 use mathlib.Core.List.{List}
 use Prim.Native.Nat.{ℕ, zero, suc, _+_, _≤_, _<_}
-use native.Mathlib.Numerals.{add-one}
 use native.Mathlib.Omega.{arith}
 use lib.ListN.{length, getD, set, length-set}
 use borrow.Author.Count.{below-more}
 use Rattle.tables.specs.Layout.{countPlace, rows, row, rowPlace, startPlace, tableWords}
 use Rattle.tables.specs.Rows.{rowReply}
-use Rattle.tables.specs.Table.{earlyBefore, lateBefore, rowReplyAt}
-use Rattle.tables.specs.Lines.{same}
+use Rattle.tables.specs.Table.{rowReplyAt}
 use Rattle.reading.specs.Reader.{rowIn}
 use Rattle.tables.specs.declared.Row.{Row}
 use Rattle.tables.proofs.Good.{Zero, AgentFacts, TableFacts}
@@ -18,7 +16,7 @@ use Rattle.reading.proofs.Stores.{withOpened, opened-below, opened-abov
 
 -- the reply of row j of agent a, where its agent has c rows
 abbrev replyIn : List ℕ → ℕ → ℕ → ℕ → ℕ
-replyIn tb a c j = rowReply (row tb a j) j c (earlyBefore tb a j) (lateBefore tb a j)
+replyIn tb a c j = rowReply (row tb a j) j c
 
 -- ---- two tables that agree on the first m rows of an agent
 
@@ -32,18 +30,8 @@ module _ (tb other : List ℕ) (a m : ℕ) (same : (k : ℕ) → rowPlace a 0 �
         same (rowPlace a i + 3) (omega arith) (omega arith),
       )
 
-  early-same : (i : ℕ) → i ≤ m → earlyBefore other a i ≡ earlyBefore tb a i
-  unfolding earlyBefore
-  early-same zero h = refl
-  early-same (suc i) h = ap (λ (r : Row). r .early) (row-same i h)
-
-  late-same : (i : ℕ) → i ≤ m → lateBefore other a i ≡ lateBefore tb a i
-  unfolding lateBefore
-  late-same zero h = refl
-  late-same (suc i) h = ap (λ (r : Row). r .late) (row-same i h)
-
   reply-same : (c i : ℕ) → i < m → replyIn other a c i ≡ replyIn tb a c i
-  reply-same c i h = rw (row-same i h, early-same i (omega arith), late-same i (omega arith))
+  reply-same c i h = ap (λ (r : Row). rowReply r i c) (row-same i h)
 
 agent-same : (tb other : List ℕ) (a : ℕ) → rows other a ≡ rows tb a → ((k : ℕ) → rowPlace a 0 ≤ k → k < rowPlace a 32 → getD other k 0 ≡ getD tb k 0)
     → AgentFacts tb a → AgentFacts other a
@@ -70,34 +58,29 @@ pub record Closed (tb : List ℕ) (a : ℕ) : Type 0 where
   pub registers-past : Zero tb (startPlace a) 81
   pub rows-past : Zero tb (rowPlace a 0) tableWords
 
--- agent b is open, with i of its c rows so far, the last with the window from e to l
-pub record Open (tb : List ℕ) (b i c e l : ℕ) : Type 0 where
+-- agent b is open, with i of its c rows so far
+pub record Open (tb : List ℕ) (b i c : ℕ) : Type 0 where
   pub now : Now tb b i
   pub done : (a : ℕ) → a < b → AgentFacts tb a
   pub pass : (j : ℕ) → j < i → replyIn tb b c j ≡ 0
-  pub early : earlyBefore tb b i ≡ e
-  pub late : lateBefore tb b i ≡ l
   pub registers-past : Zero tb (startPlace (b + 1)) 81
   pub rows-past : Zero tb (rowPlace b i) tableWords
 
 -- an agent is opened
 module _ (tb : List ℕ) (b : ℕ) (ws : List ℕ) (t : Closed tb b) (room : b < 16) (four : length ws ≡ 4) where
-  pub opened : (c : ℕ) → Open (withOpened tb b ws) b 0 c 0 0
-  unfolding earlyBefore lateBefore
+  pub opened : (c : ℕ) → Open (withOpened tb b ws) b 0 c
   opened c = record {
     now = now-opened tb b ws (t .words) room (t .counts-past);
     done =
         λ a h.
         agent-same tb (withOpened tb b ws) a (opened-below tb b ws (countPlace a) (omega arith) (omega arith)) (λ k g l. opened-above tb b ws k (omega arith)) (t .done a h);
     pass = λ j h. absurd (omega arith);
-    early = refl;
-    late = refl;
     registers-past = λ k h l. opened-above tb b ws k (omega arith) ∙ t .registers-past k (omega arith) l;
     rows-past = λ k h l. opened-above tb b ws k (omega arith) ∙ t .rows-past k h l;
   }
 
 -- a row is given
-module _ (tb : List ℕ) (b i c e l : ℕ) (ws : List ℕ) (t : Open tb b i c e l) (room : b < 16) (below : i < 32) (four : length ws ≡ 4) where
+module _ (tb : List ℕ) (b i c : ℕ) (ws : List ℕ) (t : Open tb b i c) (room : b < 16) (below : i < 32) (four : length ws ≡ 4) where
   abbrev after : List ℕ
   after = withGiven tb b i ws
 
@@ -118,8 +101,7 @@ module _ (tb : List ℕ) (b i c e l : ℕ) (ws : List ℕ) (t : Open tb b i c e 
         at 3 (rowPlace b i + 3) refl (omega arith),
       )
 
-  pub given : rowReply (rowIn ws) i c e l ≡ 0 → Open after b (i + 1) c (rowIn ws .early) (rowIn ws .late)
-  unfolding earlyBefore lateBefore
+  pub given : rowReply (rowIn ws) i c ≡ 0 → Open after b (i + 1) c
   given passes = record {
     now = now-given tb b i ws (t .now) room;
     done =
@@ -130,15 +112,13 @@ module _ (tb : List ℕ) (b i c e l : ℕ) (ws : List ℕ) (t : Open tb b i c e 
         (λ (j : ℕ). replyIn after b c j ≡ 0)
         i
         (λ j h. reply-same tb after b i (rows-kept b) c j h ∙ t .pass j h)
-        (rw (new-row, early-same tb after b i (rows-kept b) i (omega arith), late-same tb after b i (rows-kept b) i (omega arith), t .early, t .late) passes);
-    early = ap (earlyBefore after b) (add-one i) ∙ ap (λ (r : Row). r .early) new-row;
-    late = ap (lateBefore after b) (add-one i) ∙ ap (λ (r : Row). r .late) new-row;
+        (ap (λ (r : Row). rowReply r i c) new-row ∙ passes);
     registers-past = λ k h m. given-below tb b i ws k (λ q. omega arith) (omega arith) ∙ t .registers-past k h m;
     rows-past = λ k h m. given-above tb b i ws room k (omega arith) ∙ t .rows-past k (omega arith) m;
   }
 
 -- an agent has all its rows
-module _ (tb : List ℕ) (b i c e l : ℕ) (t : Open tb b i c e l) (room : b < 16) (some : 0 < i) (few : i ≤ 32) (all : i ≡ c) where
+module _ (tb : List ℕ) (b i c : ℕ) (t : Open tb b i c) (room : b < 16) (some : 0 < i) (few : i ≤ 32) (all : i ≡ c) where
   last-agent : AgentFacts tb b
   unfolding rowReplyAt
   last-agent =

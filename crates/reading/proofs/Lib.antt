@@ -6,6 +6,7 @@ pub mod Sound
 pub mod RowsRead
 pub mod Loads
 pub mod Outcomes
+pub mod Climbs
 pub mod Stores
 pub mod Growing
 pub mod ReadGood

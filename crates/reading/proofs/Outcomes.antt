@@ -1,4 +1,4 @@
--- The outcome of a read, by the replies of its two passes. Assumes nothing.
+-- The outcome of a read, by the replies of its three passes. Assumes nothing.
 use mathlib.Core.Path.{_≡_, refl, sym, ap, _∙_}
 use mathlib.Core.Bool.{Bool, true, false}
 use mathlib.Core.List.{List, _++_, append-nil}
@@ -9,20 +9,67 @@ use native.Mathlib.Omega.{arith}
 use borrow.Author.Tests.{lt-ltb, le-ltb, ltb-true, ltb-false}
 use Rattle.tables.specs.Layout.{tableWords}
 use Rattle.tables.specs.Frames.{Frame, framesOf}
-use Rattle.reading.specs.Reader.{told, inPlace, rowsGood, framesReply, tableOf}
+use Rattle.reading.specs.Reader.{told, inPlace, rowsGood, tableClimbs, firstTold, framesReply, tableOf}
 use Rattle.reading.specs.Calls.{ReadOutcome, readOutcome, framesInto, readInto, Read}
 use Rattle.reading.specs.declared.Told.{Told}
 
+-- ---- the first of two that are told
+
+module _ (t u : Told) where
+  by : (r : ℕ) → t .reply ≡ r → firstTold t u ≡ elim r as (λ _. Told) [ zero ↦ u | suc q ↦ t ]
+  unfolding firstTold
+  by r h = ap {B = Told} (λ (m : ℕ). elim m as (λ _. Told) [ zero ↦ u | suc q ↦ t ]) h
+
+  pub told-then : t .reply ≡ 0 → firstTold t u ≡ u
+  told-then h = by 0 h
+
+  pub told-first : (t .reply ≡ 0 → ⊥) → firstTold t u ≡ t
+  told-first k = go (t .reply) refl
+    where
+      go : (r : ℕ) → t .reply ≡ r → firstTold t u ≡ t
+      go zero h = absurd (k h)
+      go (suc r) h = by (suc r) h
+
+  pub told-neither : firstTold t u .reply ≡ 0 → (t .reply ≡ 0) × (u .reply ≡ 0)
+  told-neither z = go (t .reply) refl
+    where
+      go : (r : ℕ) → t .reply ≡ r → (r ≡ 0) × (u .reply ≡ 0)
+      go zero h = (refl, ap (λ (v : Told). v .reply) (sym (told-then h)) ∙ z)
+      go (suc r) h = (sym h ∙ ap (λ (v : Told). v .reply) (sym (by (suc r) h)) ∙ z, absurd (let y = ap (λ (v : Told). v .reply) (by (suc r) h) in omega arith))
+
+-- ---- the reply to frames, by the first pass that refuses
+
 module _ (fs : List Frame) where
-  pub misplaced : (r : ℕ) → inPlace 1 0 0 fs .reply ≡ r → (r ≡ 0 → ⊥) → framesReply fs ≡ inPlace 1 0 0 fs
+  pub misplaced : (inPlace 1 0 0 fs .reply ≡ 0 → ⊥) → framesReply fs ≡ inPlace 1 0 0 fs
   unfolding framesReply
-  misplaced zero h k = absurd (k refl)
-  misplaced (suc r) h k = ap {B = Told} (λ (m : ℕ). elim m [ zero ↦ rowsGood 1 0 0 0 0 fs | suc q ↦ inPlace 1 0 0 fs ]) h
+  misplaced k = told-first _ _ k
 
-  pub in-places : inPlace 1 0 0 fs .reply ≡ 0 → framesReply fs ≡ rowsGood 1 0 0 0 0 fs
-  unfolding framesReply
-  in-places h = rw (h, framesReply)
+  module _ (placed : inPlace 1 0 0 fs .reply ≡ 0) where
+    pub row-refused : (rowsGood 1 0 0 fs .reply ≡ 0 → ⊥) → framesReply fs ≡ rowsGood 1 0 0 fs
+    unfolding framesReply
+    row-refused k = told-then _ _ placed ∙ told-first _ _ k
 
+    pub rows-passed : rowsGood 1 0 0 fs .reply ≡ 0 → framesReply fs ≡ tableClimbs (tableOf fs)
+    unfolding framesReply
+    rows-passed h = told-then _ _ placed ∙ told-then _ _ h
+
+  module _ (h : framesReply fs .reply ≡ 0) where
+    neither : (inPlace 1 0 0 fs .reply ≡ 0) × (firstTold (rowsGood 1 0 0 fs) (tableClimbs (tableOf fs)) .reply ≡ 0)
+    unfolding framesReply
+    neither = told-neither _ _ h
+
+    pub accepted-placed : inPlace 1 0 0 fs .reply ≡ 0
+    accepted-placed = neither .0
+
+    pub accepted-rows : rowsGood 1 0 0 fs .reply ≡ 0
+    accepted-rows = told-neither _ _ (neither .1) .0
+
+    pub accepted-climbs : tableClimbs (tableOf fs) .reply ≡ 0
+    accepted-climbs = told-neither _ _ (neither .1) .1
+
+-- ---- what a read leaves, by the reply to its frames
+
+module _ (fs : List Frame) where
   abbrev byReply : List ℕ → ℕ → ReadOutcome
   byReply tb m =
       elim m [
@@ -49,35 +96,16 @@ module _ (text tb : List ℕ) where
     unfolding readInto
     into = rw (le-ltb _ _ long, readInto)
 
-    pub not-in-place : (t : Told) → t ≡ inPlace 1 0 0 (framesOf text) → (t .reply ≡ 0 → ⊥) → readOutcome t tb ≡ readInto text tb
-    not-in-place t e k =
-        let f = misplaced (framesOf text) (t .reply) (ap (λ (u : Told). u .reply) (sym e)) k in
-        let r = refused (framesOf text) tb (t .reply) (ap (λ (u : Told). u .reply) (f ∙ sym e)) k in
-        sym (into ∙ r ∙ ap (λ (u : Told). readOutcome u tb) (f ∙ sym e))
+    module _ (t : Told) (e : t ≡ framesReply (framesOf text)) where
+      pub read-refused : (t .reply ≡ 0 → ⊥) → readOutcome t tb ≡ readInto text tb
+      read-refused k =
+          ap (λ (u : Told). readOutcome u tb) e ∙ sym (into ∙ refused (framesOf text) tb (t .reply) (ap (λ (u : Told). u .reply) (sym e)) k)
 
-    module _ (placed : inPlace 1 0 0 (framesOf text) .reply ≡ 0) (t : Told) (e : t ≡ rowsGood 1 0 0 0 0 (framesOf text)) where
-      pub not-good : (t .reply ≡ 0 → ⊥) → readOutcome t tb ≡ readInto text tb
-      not-good k =
-          let f = in-places (framesOf text) placed ∙ sym e in
-          sym (into ∙ refused (framesOf text) tb (t .reply) (ap (λ (u : Told). u .reply) f) k ∙ ap (λ (u : Told). readOutcome u tb) f)
-
-      pub all-good : t .reply ≡ 0 → (words : List ℕ) → words ≡ tableOf (framesOf text) → readOutcome t (words ++ drop tableWords tb) ≡ readInto text tb
-      all-good z words w =
-          let f = in-places (framesOf text) placed ∙ sym e in
-          sym
-          (into ∙ accepted (framesOf text) tb (ap (λ (u : Told). u .reply) f ∙ z)
-          ∙ ap (λ (u : Told). readOutcome u (tableOf (framesOf text) ++ drop tableWords tb)) f
-          ∙ ap (λ (l : List ℕ). readOutcome t (l ++ drop tableWords tb)) (sym w))
+      pub read-accepted : t .reply ≡ 0 → (words : List ℕ) → words ≡ tableOf (framesOf text) → readOutcome t (words ++ drop tableWords tb) ≡ readInto text tb
+      read-accepted z words w =
+          (λ k. readOutcome (e k) (w k ++ drop tableWords tb)) ∙ sym (into ∙ accepted (framesOf text) tb (ap (λ (u : Told). u .reply) (sym e) ∙ z))
 
 -- ---- a read that was accepted
-
-module _ (fs : List Frame) where
-  pub accepted-placed : framesReply fs .reply ≡ 0 → inPlace 1 0 0 fs .reply ≡ 0
-  accepted-placed h = go (inPlace 1 0 0 fs .reply) refl
-    where
-      go : (r : ℕ) → inPlace 1 0 0 fs .reply ≡ r → r ≡ 0
-      go zero e = refl
-      go (suc r) e = sym (ap (λ (u : Told). u .reply) (misplaced fs (suc r) e (λ q. omega arith)) ∙ e) ∙ h
 
 module _ (text tb : List ℕ) (t : Told) (after : List ℕ) (r : Read text tb t after) (z : t .reply ≡ 0) where
   accepted-into : ltb (length tb) tableWords ≡ false

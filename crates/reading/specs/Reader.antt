@@ -1,4 +1,4 @@
--- The reader of frames: replies 2, 18, 19 and 3 with their line, then 4 to 7, and the table's words. Assumes nothing.
+-- The reader of frames: replies 2, 18, 19 and 3 with their line, then 4 to 6, then 7, and the table's words. Assumes nothing.
 use mathlib.Core.Bool.{Bool, true, false, not, _&&_}
 use mathlib.Core.List.{List, [], _∷_}
 use Prim.Native.Nat.{ℕ, zero, suc, _+_, _-_}
@@ -8,8 +8,9 @@ use lib.Seq.{sets}
 use Rattle.tables.specs.Basics.{first, _⇒_, Rule}
 use Rattle.tables.specs.Faults.{faultReply}
 use Rattle.tables.specs.Frames.{Frame, opens, gives, ends, malformed}
-use Rattle.tables.specs.Layout.{rowOf, agentsPlace, countPlace, startPlace, rowPlace, tableWords}
+use Rattle.tables.specs.Layout.{agents, rows, rowOf, agentsPlace, countPlace, startPlace, rowPlace, tableWords}
 use Rattle.tables.specs.Rows.{rowReply}
+use Rattle.tables.specs.Table.{climbs}
 use Rattle.tables.specs.declared.Row.{Row}
 use Rattle.reading.specs.declared.Told.{Told}
 
@@ -92,21 +93,17 @@ rowsNext (malformed w ∷ fs) = 0
 abbrev pub rowIn : List ℕ → Row
 rowIn ws = rowOf (getD ws 0 0) (getD ws 1 0) (getD ws 2 0) (getD ws 3 0)
 
--- 4 to 7. Line n is next, in an agent of c rows of which i were taken, the last with the window from e to l.
-unfoldable pub rowsGood : (n c i e l : ℕ) → List Frame → Told
-rowsGood n c i e l [] = told 0 0
-rowsGood n c i e l (opens b ws ∷ fs) = rowsGood (n + 1) (rowsNext fs) 0 0 0 fs
-rowsGood n c i e l (gives b ws ∷ fs) =
-    elim (rowReply (rowIn ws) i c e l) [
-      | zero ↦ rowsGood (n + 1) c (i + 1) (rowIn ws .early) (rowIn ws .late) fs
+-- 4 to 6. Line n is next, in an agent of c rows of which i were taken.
+unfoldable pub rowsGood : (n c i : ℕ) → List Frame → Told
+rowsGood n c i [] = told 0 0
+rowsGood n c i (opens b ws ∷ fs) = rowsGood (n + 1) (rowsNext fs) 0 fs
+rowsGood n c i (gives b ws ∷ fs) =
+    elim (rowReply (rowIn ws) i c) [
+      | zero ↦ rowsGood (n + 1) c (i + 1) fs
       | suc r ↦ told (suc r) n
     ]
-rowsGood n c i e l (ends ∷ fs) = told 0 0
-rowsGood n c i e l (malformed w ∷ fs) = told 0 0
-
--- "First all lines are read for 2 and 3", and by T-01 for 18 and 19 between them, ".. Then rows are taken in order for 4, 5, 6, 7."
-unfoldable pub framesReply : List Frame → Told
-framesReply fs = elim (inPlace 1 0 0 fs .reply) [ zero ↦ rowsGood 1 0 0 0 0 fs | suc r ↦ inPlace 1 0 0 fs ]
+rowsGood n c i (ends ∷ fs) = told 0 0
+rowsGood n c i (malformed w ∷ fs) = told 0 0
 
 -- the words tb once the frames are put in, after a agents of which the last has i rows
 unfoldable pub loaded : List ℕ → (a i : ℕ) → List Frame → List ℕ
@@ -119,3 +116,29 @@ loaded tb a i (malformed w ∷ fs) = tb
 -- the 2,129 words of a table that was read: "On success the unused words of the table are set to 0"
 unfoldable pub tableOf : List Frame → List ℕ
 tableOf fs = loaded (replicate tableWords 0) 0 0 fs
+
+-- ---- 7: "names the earliest row that breaks this", the row that goes on to an earlier window
+
+-- of the k rows of agent a from row i on, whose line is line n
+unfoldable pub rowsClimb : (tb : List ℕ) (n a i k : ℕ) → Told
+rowsClimb tb n a i zero = told 0 0
+rowsClimb tb n a i (suc k) = elim (climbs tb a i) [ true ↦ rowsClimb tb (n + 1) a (i + 1) k | false ↦ told 7 n ]
+
+-- what is told first of two
+unfoldable pub firstTold : Told → Told → Told
+firstTold t u = elim (t .reply) [ zero ↦ u | suc r ↦ t ]
+
+-- of the m agents from agent a on, which line n opens: its rows' lines follow it, and then the next agent's
+unfoldable pub agentsClimb : (tb : List ℕ) (n a m : ℕ) → Told
+agentsClimb tb n a zero = told 0 0
+agentsClimb tb n a (suc m) = firstTold (rowsClimb tb (n + 1) a 0 (rows tb a)) (agentsClimb tb (n + 1 + rows tb a) (a + 1) m)
+
+-- of all agents, the first of which line 1 opens
+unfoldable pub tableClimbs : List ℕ → Told
+tableClimbs tb = agentsClimb tb 1 0 (agents tb)
+
+-- ---- the reply to the frames of a text, with its line
+
+-- "First all lines are read for 2 and 3", and by T-01 for 18 and 19 between them, ".. Then rows are taken in order for 4, 5, 6", and by T-03 7 "is tested once all rows have passed 4 to 6".
+unfoldable pub framesReply : List Frame → Told
+framesReply fs = firstTold (inPlace 1 0 0 fs) (firstTold (rowsGood 1 0 0 fs) (tableClimbs (tableOf fs)))

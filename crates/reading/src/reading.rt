@@ -1,5 +1,6 @@
-// The reader of frames. The text is passed for replies 2, 18, 19 and 3, then for 4 to 7 while a table beside the lent one is filled, which is then copied.
+// The reader of frames. The text is passed for replies 2, 18, 19 and 3, then for 4 to 6 while a table beside the lent one is filled; that is passed for 7, and then copied.
 use crate::Told;
+use crate::climbing::table_climbs;
 use crate::loading::put_agent;
 use crate::loading::put_row;
 use crate::placing::in_place;
@@ -14,7 +15,6 @@ use tables::hex::word;
 use tables::layout::TABLE_WORDS;
 use tables::replies::ACCEPTED;
 use tables::replies::BUFFER_TOO_SHORT;
-use tables::rows::row_of;
 use tables::rows::row_reply;
 use tables::words::clear;
 use tables::words::copy;
@@ -51,10 +51,10 @@ fn rows_next(text: &[u8], at: usize) -> u32
     c
 }
 
-// Replies 4 to 7, or 0, of a text whose lines are in their places, and where it is 0 the table.
+// Replies 4 to 6, or 0, of a text whose lines are in their places, and where it is 0 the table.
 fn take_rows(text: &[u8], table: &mut [u32]) -> Told
     requires { ⌜ (inPlace 1 0 0 (framesOf (now text)) .reply ≡ 0) × (length (now table) ≡ tableWords) ⌝ }
-    ensures { λ r. ⌜ (r ≡ rowsGood 1 0 0 0 0 (framesOf (now (text .entry)))) × (r .reply ≡ 0 → now (table .exit) ≡ tableOf (framesOf (now (text .entry)))) ⌝ }
+    ensures { λ r. ⌜ (r ≡ rowsGood 1 0 0 (framesOf (now (text .entry)))) × (r .reply ≡ 0 → now (table .exit) ≡ tableOf (framesOf (now (text .entry)))) ⌝ }
 {
     clear(table);
     let mut p = 0;
@@ -62,8 +62,6 @@ fn take_rows(text: &[u8], table: &mut [u32]) -> Told
     let mut a = 0;
     let mut c = 0;
     let mut i = 0;
-    let mut early = 0;
-    let mut late = 0;
     while p < text.len() {
         let line = sound_line(text, p);
         match line {
@@ -74,25 +72,20 @@ fn take_rows(text: &[u8], table: &mut [u32]) -> Told
                 a += 1;
                 c = rows_next(text, p);
                 i = 0;
-                early = 0;
-                late = 0;
             }
             Line::Gives(_) => {
                 let code = word(text, p, FIRST_WORD);
                 let k = word(text, p, SECOND_WORD);
-                let from = word(text, p, THIRD_WORD);
-                let to = word(text, p, FOURTH_WORD);
-                let row = row_of(code, k, from, to);
-                let reply = row_reply(row, i as u32, c, early, late);
+                let early = word(text, p, THIRD_WORD);
+                let late = word(text, p, FOURTH_WORD);
+                let reply = row_reply(code, k, early, late, i as u32, c);
                 if reply != ACCEPTED {
                     return Told { reply, line: n };
                 }
-                put_row(table, a, i, code, k, from, to);
+                put_row(table, a, i, code, k, early, late);
                 p += FRAME_BYTES;
                 n += 1;
                 i += 1;
-                early = row.early;
-                late = row.late;
             }
             _ => {
                 return Told {
@@ -142,6 +135,10 @@ pub fn read(text: &[u8], table: &mut [u32]) -> Told
     if good.reply != ACCEPTED {
         return good;
     }
+    let climbing = table_climbs(&words);
+    if climbing.reply != ACCEPTED {
+        return climbing;
+    }
     put_table(&words, table);
-    good
+    climbing
 }

@@ -14,7 +14,7 @@ abbrev pub foursOf : (p q : ℕ) → ℕ
 foursOf p q = p * 4294967296 + q
 
 -- the lowest block, of k bits, and what stands above it
-block-and : (k a m c s r : ℕ) → c < 2 ^ k → s < 2 ^ k → bitAnd a m ≡ r → bitAnd (a * 2 ^ k + c) (m * 2 ^ k + s) ≡ r * 2 ^ k + bitAnd c s
+pub block-and : (k a m c s r : ℕ) → c < 2 ^ k → s < 2 ^ k → bitAnd a m ≡ r → bitAnd (a * 2 ^ k + c) (m * 2 ^ k + s) ≡ r * 2 ^ k + bitAnd c s
 block-and k a m c s r h l e = and-block k a m c s h l ∙ ap (λ (q : ℕ). q * 2 ^ k + bitAnd c s) e
 
 module _ (s : ℕ) (k : s < 256) where

@@ -10,7 +10,7 @@ use lib.ListN.{getD}
 use borrow.Author.Tests.{leb-true, eqb-true, eqb-false, ne-eqb}
 use Rattle.tables.proofs.Passed.{and-1, and-2, each}
 use Rattle.tables.specs.Family.{familyOf}
-use Rattle.tables.specs.Rows.{namesOf, within, fieldsFit, wellFormed}
+use Rattle.tables.specs.Rows.{Names, namesOf, within, fieldsFit, wellFormed}
 use Rattle.tables.specs.declared.Row.{Row}
 use Rattle.tables.specs.declared.Family.{Family}
 use Rattle.tables.specs.declared.Family.the-variants.{Local, Move, Send, Receive, Unknown}
@@ -112,14 +112,6 @@ local-formed (suc (suc (suc zero))) r h n = refl
 local-formed (suc (suc (suc (suc zero)))) r h n = refl
 local-formed (suc (suc (suc (suc (suc op))))) r h n = absurd (omega arith)
 
-move-formed : (op : ℕ) (r : Row) → 0x10 ≤ op → op ≤ 0x11 → formed op r ≡ fieldsFit r (eqb op 0x10) false true false
-unfolding namesOf
-move-formed op r l h = go (eqb op 0x10) refl
-  where
-    go : (b : Bool) → eqb op 0x10 ≡ b → formed op r ≡ fieldsFit r (eqb op 0x10) false true false
-    go true e = rw (eqb-true op 0x10 e)
-    go false e = let s : op ≡ 0x11 = omega (arith, eqb-false op 0x10 e) in rw s
-
 module _ (r : Row) where
   pub set-row : r .op ≡ 0 → wellFormed r ≡ fieldsFit r true false false true
   unfolding wellFormed namesOf
@@ -129,9 +121,13 @@ module _ (r : Row) where
   unfolding wellFormed
   two-registers-row h n = local-formed (r .op) r (local-op (r .op) h) n
 
-  pub move-row : familyOf (r .op) ≡ Move → wellFormed r ≡ fieldsFit r (eqb (r .op) 0x10) false true false
-  unfolding wellFormed
-  move-row h = move-formed (r .op) r (move-op (r .op) h .0) (move-op (r .op) h .1)
+  pub skip-row : r .op ≡ 0x10 → wellFormed r ≡ fieldsFit r true false true false
+  unfolding wellFormed namesOf
+  skip-row h = rw h
+
+  pub jump-row : familyOf (r .op) ≡ Move → (r .op ≡ 0x10 → ⊥) → wellFormed r ≡ fieldsFit r false false true false
+  unfolding wellFormed namesOf
+  jump-row h n = let m = move-op (r .op) h in let op : r .op ≡ 0x11 = omega (arith, n) in rw op
 
   pub send-row : familyOf (r .op) ≡ Send → wellFormed r ≡ fieldsFit r true false false true
   unfolding wellFormed namesOf
@@ -154,6 +150,21 @@ unfolding within
 within-le true limit v h = leb-true v limit h
 within-le false limit v h = let e = eqb-true v 0 h in omega arith
 
+either : (b : Bool) (u v : Names) → u .n ≡ false → v .n ≡ false → cond b u v .n ≡ false
+either true u v h k = h
+either false u v h k = k
+
+no-n : (op : ℕ) → (op ≡ 0x10 → ⊥) → (op ≡ 0x11 → ⊥) → (op ≡ 0x30 → ⊥) → namesOf op .n ≡ false
+unfolding namesOf
+no-n op p q s =
+    rw (ne-eqb op 0x10 p, ne-eqb op 0x11 q, ne-eqb op 0x30 s)
+    (either (eqb op 0x00) _ _ refl
+    (either (eqb op 0x01) _ _ refl
+    (either (eqb op 0x02) _ _ refl
+    (either (eqb op 0x03) _ _ refl
+    (either (eqb op 0x04) _ _ refl
+    (either (eqb op 0x20) _ _ refl refl))))))
+
 module _ (r : Row) (w : wellFormed r ≡ true) where
   field-passes : (k : ℕ) → getD (fieldTests r) k true ≡ true
   unfolding wellFormed fieldsFit
@@ -167,3 +178,8 @@ module _ (r : Row) (w : wellFormed r ≡ true) where
 
   pub n-range : r .n ≤ 31
   n-range = within-le (namesOf (r .op) .n) 31 (r .n) (field-passes 2)
+
+  -- a row that is no SKIP, JUMP or RECV does not name n, which is 0
+  pub n-unnamed : (r .op ≡ 0x10 → ⊥) → (r .op ≡ 0x11 → ⊥) → (r .op ≡ 0x30 → ⊥) → r .n ≡ 0
+  unfolding within
+  n-unnamed p q s = eqb-true (r .n) 0 (subst (λ (b : Bool). within b 31 (r .n) ≡ true) (no-n (r .op) p q s) (field-passes 2))

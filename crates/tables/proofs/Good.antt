@@ -1,23 +1,25 @@
 -- What an accepted table is, fact by fact, and that these facts make one: what the executive and the reader use, so that neither opens
 -- the table rule. Assumes nothing.
-use mathlib.Core.Path.{_≡_, refl, sym, ap}
+use mathlib.Core.Path.{_≡_, refl, sym}
 use mathlib.Core.Bool.{Bool, true, false}
 use mathlib.Core.List.{List}
-use Prim.Native.Nat.{ℕ, zero, suc, _+_, _≤_, _<_}
+use Prim.Native.Nat.{ℕ, _+_, _≤_, _<_}
 use native.Mathlib.Omega.{arith}
 use lib.Dec.{eqb, ltb}
 use lib.ListN.{getD, length, take}
 use borrow.Author.Tests.{leb-true, le-leb, eqb-true, eqb-false, eq-eqb, ltb-true, ltb-false, le-ltb, not-false}
-use Rattle.tables.proofs.Passed.{each, every-go, every-none, below, all-below, passed, first-skip, first-none}
+use Rattle.tables.proofs.Passed.{and-1, and-2, each, every-go, every-none, below, all-below, passed, first-skip, first-none}
 use Rattle.tables.proofs.Tests.{not-t}
 use Rattle.tables.proofs.Zeros.{zero-at, zero-all}
 use Rattle.tables.proofs.RowReplies.{RowFits, row-fits}
-use Rattle.tables.proofs.Loops.{rowPasses}
+use Rattle.tables.proofs.Loops.{rowPasses, row-passes as row-good}
+use Rattle.tables.proofs.Onward.{climbs-on}
 use Rattle.tables.proofs.Families.{OneOfNine, one-of-nine, x-range, y-range, n-range}
+use Rattle.tables.specs.Basics.{OneOf}
 use Rattle.tables.specs.Layout.{agents, rows, row, rowPlace, startPlace, tableWords}
-use Rattle.tables.specs.Rows.{wellFormed}
+use Rattle.tables.specs.Rows.{wellFormed, goesOnTo}
 use Rattle.tables.specs.Calls.{checkReply}
-use Rattle.tables.specs.Table.{earlyBefore, lateBefore, rowReplyAt, goodRows, goodAgent, goodTable}
+use Rattle.tables.specs.Table.{rowReplyAt, climbs, goodRows, goodAgent, goodTable}
 
 -- the words from place i up to place j are 0
 abbrev pub Zero : List ℕ → ℕ → ℕ → Type 0
@@ -28,6 +30,7 @@ Zero tb i j = (k : ℕ) → i ≤ k → k < j → getD tb k 0 ≡ 0
 pub record AgentFacts (tb : List ℕ) (a : ℕ) : Type 0 where
   pub rows-some : 1 ≤ rows tb a
   pub rows-few : rows tb a ≤ 32
+  -- 4 to 6; what rule 7 adds is `Climbing`
   pub rows-pass : (i : ℕ) → i < rows tb a → rowReplyAt tb a i ≡ 0
   pub rows-past : Zero tb (rowPlace a (rows tb a)) (rowPlace (a + 1) 0)
 
@@ -39,43 +42,59 @@ pub record TableFacts (tb : List ℕ) : Type 0 where
   pub registers-past : Zero tb (startPlace (agents tb)) 81
   pub agents-past : Zero tb (rowPlace (agents tb) 0) tableWords
 
+-- rule 7, of every row
+abbrev pub Climbing : List ℕ → Type 0
+Climbing tb = (a i : ℕ) → a < agents tb → i < rows tb a → climbs tb a i ≡ true
+
 -- ---- the facts make a good table
 
 module _ (tb : List ℕ) where
-  pub rows-good : (a : ℕ) → ((i : ℕ) → i < rows tb a → rowReplyAt tb a i ≡ 0) → goodRows tb a ≡ true
+  rows-good : (a : ℕ) → ((i : ℕ) → i < rows tb a → rowReplyAt tb a i ≡ 0) → ((i : ℕ) → i < rows tb a → climbs tb a i ≡ true) → goodRows tb a ≡ true
   unfolding goodRows
-  rows-good a h = all-below (rows tb a) (rowPasses tb a) (λ i l. eq-eqb (rowReplyAt tb a i) 0 (h i l))
+  rows-good a h k = all-below (rows tb a) (rowPasses tb a) (λ i l. row-good tb a i (h i l) (k i l))
 
-  pub agent-good : (a : ℕ) → AgentFacts tb a → goodAgent tb a ≡ true
+  agent-good : (a : ℕ) → AgentFacts tb a → ((i : ℕ) → i < rows tb a → climbs tb a i ≡ true) → goodAgent tb a ≡ true
   unfolding goodAgent
-  agent-good a f =
+  agent-good a f k =
       sym
       (every-go _ _ _ (le-leb _ _ (f .rows-some))
       (every-go _ _ _ (le-leb _ _ (f .rows-few))
-      (every-go _ _ _ (rows-good a (f .rows-pass))
+      (every-go _ _ _ (rows-good a (f .rows-pass) k)
       (every-go _ _ _ (zero-all _ _ _ (f .rows-past)) every-none))))
 
-  pub table-good : TableFacts tb → goodTable tb ≡ true
+  pub table-good : TableFacts tb → Climbing tb → goodTable tb ≡ true
   unfolding goodTable
-  table-good f =
+  table-good f k =
       sym
       (every-go _ _ _ (le-leb _ _ (f .some-agents))
       (every-go _ _ _ (le-leb _ _ (f .few-agents))
-      (every-go _ _ _ (all-below (agents tb) (goodAgent tb) (λ a h. agent-good a (f .each-agent a h)))
+      (every-go _ _ _ (all-below (agents tb) (goodAgent tb) (λ a h. agent-good a (f .each-agent a h) (λ i l. k a i h l)))
       (every-go _ _ _ (zero-all _ _ _ (f .counts-past))
       (every-go _ _ _ (zero-all _ _ _ (f .registers-past))
       (every-go _ _ _ (zero-all _ _ _ (f .agents-past)) every-none))))))
 
   -- ---- a good table has the facts
 
-  pub agent-facts : (a : ℕ) → goodAgent tb a ≡ true → AgentFacts tb a
-  unfolding goodAgent goodRows
-  agent-facts a good = record {
-    rows-some = leb-true _ _ (each _ good 0);
-    rows-few = leb-true _ _ (each _ good 1);
-    rows-pass = λ i l. eqb-true _ 0 (below (rows tb a) (rowPasses tb a) (each _ good 2) i l);
-    rows-past = zero-at _ _ _ (each _ good 3);
-  }
+  module _ (a : ℕ) (good : goodAgent tb a ≡ true) where
+    row-passed : (i : ℕ) → i < rows tb a → rowPasses tb a i ≡ true
+    unfolding goodAgent goodRows
+    row-passed i l = below (rows tb a) (rowPasses tb a) (each _ good 2) i l
+
+    agent-facts : AgentFacts tb a
+    unfolding goodAgent
+    agent-facts = record {
+      rows-some = leb-true _ _ (each _ good 0);
+      rows-few = leb-true _ _ (each _ good 1);
+      rows-pass = λ i l. eqb-true _ 0 (and-1 (eqb (rowReplyAt tb a i) 0) (climbs tb a i) (row-passed i l));
+      rows-past = zero-at _ _ _ (each _ good 3);
+    }
+
+    agent-climbs : (i : ℕ) → i < rows tb a → climbs tb a i ≡ true
+    agent-climbs i l = and-2 (eqb (rowReplyAt tb a i) 0) (climbs tb a i) (row-passed i l)
+
+  pub table-climbs : goodTable tb ≡ true → Climbing tb
+  unfolding goodTable
+  table-climbs good a i h l = agent-climbs a (below (agents tb) (goodAgent tb) (each _ good 2) a h) i l
 
   pub table-facts : goodTable tb ≡ true → TableFacts tb
   unfolding goodTable
@@ -87,15 +106,6 @@ module _ (tb : List ℕ) where
     registers-past = zero-at _ _ _ (each _ good 4);
     agents-past = zero-at _ _ _ (each _ good 5);
   }
-
--- what goes up, or stays, from each number below n to the next
-climbs : (f : ℕ → ℕ) (n : ℕ) → ((i : ℕ) → suc i < n → f i ≤ f (suc i)) → (i j : ℕ) → i ≤ j → j < n → f i ≤ f j
-climbs f n up i zero h l = let e : i ≡ 0 = omega arith in let q = ap f e in omega arith
-climbs f n up i (suc j) h l = go (λ k. climbs f n up i j k (omega arith)) (eqb i (suc j)) refl
-  where
-    go : (i ≤ j → f i ≤ f j) → (b : Bool) → eqb i (suc j) ≡ b → f i ≤ f (suc j)
-    go rec true e = let q = ap f (eqb-true i (suc j) e) in omega arith
-    go rec false e = let r = rec (omega (arith, eqb-false i (suc j) e)) in omega (arith, up j l)
 
 -- ---- an accepted table
 
@@ -134,9 +144,9 @@ module _ (tb : List ℕ) (good : goodTable tb ≡ true) where
       pub row-passes : rowReplyAt tb a i ≡ 0
       row-passes = agent .rows-pass i l
 
-      pub fits : RowFits (row tb a i) i (rows tb a) (earlyBefore tb a i) (lateBefore tb a i)
+      fits : RowFits (row tb a i) i (rows tb a)
       unfolding rowReplyAt
-      fits = row-fits (row tb a i) i (rows tb a) (earlyBefore tb a i) (lateBefore tb a i) row-passes
+      fits = row-fits (row tb a i) i (rows tb a) row-passes
 
       pub formed : wellFormed (row tb a i) ≡ true
       formed = fits .formed
@@ -162,14 +172,10 @@ module _ (tb : List ℕ) (good : goodTable tb ≡ true) where
       pub late-bound : row tb a i .late ≤ 1000000
       late-bound = fits .bound
 
-    -- windows are ordered along the rows
-    pub early-climbs : (i j : ℕ) → i ≤ j → j < rows tb a → row tb a i .early ≤ row tb a j .early
-    unfolding earlyBefore
-    early-climbs = climbs (λ i. row tb a i .early) (rows tb a) (λ i l. fits (suc i) l .early-on)
-
-    pub late-climbs : (i j : ℕ) → i ≤ j → j < rows tb a → row tb a i .late ≤ row tb a j .late
-    unfolding lateBefore
-    late-climbs = climbs (λ i. row tb a i .late) (rows tb a) (λ i l. fits (suc i) l .late-on)
+      -- a row that it can go on to has no earlier window
+      pub window-on : (j : ℕ) → OneOf j (goesOnTo (row tb a i) i) → j < rows tb a
+          → (row tb a i .early ≤ row tb a j .early) × (row tb a i .late ≤ row tb a j .late)
+      window-on = climbs-on tb a i (table-climbs tb good a i h l)
 
   -- 0 in every row that no agent has: past an agent's count, or past the agents
   pub no-such-row : (a i w : ℕ) → a < 16 → i < 32 → w < 4 → (a < agents tb → rows tb a ≤ i) → getD tb (rowPlace a i + w) 0 ≡ 0

@@ -5,8 +5,10 @@ pub mod Zeros
 pub mod Stored
 pub mod WordPlaces
 pub mod Families
+pub mod Onward
 pub mod Loops
 pub mod Good
+pub mod Paths
 pub mod Lines
 pub mod Newlines
 pub mod FirstLine
@@ -16,4 +18,5 @@ pub mod Heads
 pub mod Sound
 pub mod Small
 pub mod Blocks
+pub mod Masks
 pub mod Digits

@@ -1,4 +1,6 @@
 -- Words that the other definitions are written in: the first refusal of a list, tests over a range. Assumes nothing.
+use mathlib.Core.Path.{_≡_}
+use mathlib.Core.Logic.{_⊎_}
 use mathlib.Core.Bool.{Bool, true, _&&_, cond}
 use mathlib.Core.List.{List, [], _∷_}
 use Prim.Native.Nat.{ℕ, zero, suc, _-_}
@@ -19,6 +21,11 @@ first ((b ⇒ r) ∷ rs) = cond b r (first rs)
 unfoldable pub every : List Bool → Bool
 every [] = true
 every (b ∷ bs) = b && every bs
+
+-- the number is one of a list's
+abbrev pub OneOf : ℕ → List ℕ → Type 0
+OneOf j [] = ⊥
+OneOf j (i ∷ is) = (j ≡ i) ⊎ OneOf j is
 
 -- the test holds of each number below n
 unfoldable pub allBelow : ℕ → (ℕ → Bool) → Bool

@@ -5,6 +5,7 @@ pub mod Layout
 pub mod Family
 pub mod Rows
 pub mod Table
+pub mod Paths
 pub mod Lines
 pub mod Faults
 pub mod Frames

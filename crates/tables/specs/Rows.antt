@@ -1,4 +1,4 @@
--- The rules of a row, replies 4 to 7. Assumes nothing.
+-- The rules of a row, replies 4 to 6, and the rows that it can go on to, of which reply 7 speaks. Assumes nothing.
 use mathlib.Core.Bool.{Bool, true, false, not, _&&_, _||_, cond}
 use mathlib.Core.List.{List, [], _∷_}
 use Prim.Native.Nat.{ℕ, _+_}
@@ -43,15 +43,25 @@ fieldsFit r x y n k = every (within x 3 (r .x) ∷ within y 3 (r .y) ∷ within 
 unfoldable pub wellFormed : Row → Bool
 wellFormed r = let u = namesOf (r .op) in u .known && fieldsFit r (u .x) (u .y) (u .n) (u .k)
 
--- A row's refusal, or 0: row r at place i of an agent of c rows, after a row with the window from e to l.
+-- A row's refusal, or 0: row r at place i of an agent of c rows.
 -- An unused n is 0, so p+1+n is the farthest that any row goes on to.
-unfoldable pub rowReply : Row → (i c e l : ℕ) → ℕ
-rowReply r i c e l =
+unfoldable pub rowReply : Row → (i c : ℕ) → ℕ
+rowReply r i c =
     first
     ((not (wellFormed r) ⇒ 4)
     ∷ (ltb c (i + 1 + r .n) ⇒ 5)
     ∷ (leb (r .late) (r .early) ⇒ 6)
     ∷ (ltb 1000000 (r .late) ⇒ 6)
-    ∷ (ltb (r .early) e ⇒ 7)
-    ∷ (ltb (r .late) l ⇒ 7)
     ∷ [])
+
+-- The rows that row r at place p can go on to, whatever its agent holds and whatever is visible to it: 01's table of rows, its last column.
+unfoldable pub goesOnTo : Row → (p : ℕ) → List ℕ
+goesOnTo r p =
+    cond (eqb (r .op) 0x10) ((p + 1) ∷ (p + 1 + r .n) ∷ [])  -- SKIP x, n
+    (cond (eqb (r .op) 0x11) ((p + 1 + r .n) ∷ [])  -- JUMP n
+    (cond (eqb (r .op) 0x30) ((p + 1) ∷ (p + 1 + r .n) ∷ [])  -- RECV x, k, n
+    ((p + 1) ∷ [])))  -- "All rows but SKIP, JUMP and an empty RECV go on at p+1"
+
+-- the window of row r is not above that of row q
+unfoldable pub notAbove : Row → Row → Bool
+notAbove r q = leb (r .early) (q .early) && leb (r .late) (q .late)

@@ -1,27 +1,26 @@
 -- The table's words break no rule of 01: what reply 8 denies. Assumes nothing.
-use mathlib.Core.Bool.{Bool}
-use mathlib.Core.List.{List, [], _∷_}
-use Prim.Native.Nat.{ℕ, zero, suc, _+_}
+use mathlib.Core.Bool.{Bool, _&&_, _||_}
+use mathlib.Core.List.{List, [], _∷_, map}
+use Prim.Native.Nat.{ℕ, _+_}
 use lib.Dec.{leb, eqb}
 use Rattle.tables.specs.Basics.{every, allBelow, zeroFrom}
 use Rattle.tables.specs.Layout.{agents, rows, row, countPlace, startPlace, rowPlace, tableWords}
-use Rattle.tables.specs.Rows.{rowReply}
+use Rattle.tables.specs.Rows.{rowReply, goesOnTo, notAbove}
 
--- the window of the row before row i; before row 0 one that is below every window
-unfoldable pub earlyBefore : List ℕ → ℕ → ℕ → ℕ
-earlyBefore tb a zero = 0
-earlyBefore tb a (suc i) = row tb a i .early
+unfoldable pub rowReplyAt : List ℕ → (a i : ℕ) → ℕ
+rowReplyAt tb a i = rowReply (row tb a i) i (rows tb a)
 
-unfoldable pub lateBefore : List ℕ → ℕ → ℕ → ℕ
-lateBefore tb a zero = 0
-lateBefore tb a (suc i) = row tb a i .late
+-- from row i to row j: at the row count stands the end, and "the end has no window"
+unfoldable pub climbsTo : List ℕ → (a i j : ℕ) → Bool
+climbsTo tb a i j = leb (rows tb a) j || notAbove (row tb a i) (row tb a j)
 
-unfoldable pub rowReplyAt : List ℕ → ℕ → ℕ → ℕ
-rowReplyAt tb a i = rowReply (row tb a i) i (rows tb a) (earlyBefore tb a i) (lateBefore tb a i)
+-- 02's T-03: "a row's early and late are each not above those of every row it can go on to", which reply 7 denies
+unfoldable pub climbs : List ℕ → (a i : ℕ) → Bool
+climbs tb a i = every (map (climbsTo tb a i) (goesOnTo (row tb a i) i))
 
--- each row of an agent is within the rules
+-- each row of an agent is within the rules, 4 to 7
 unfoldable pub goodRows : List ℕ → ℕ → Bool
-goodRows tb a = allBelow (rows tb a) (λ i. eqb (rowReplyAt tb a i) 0)
+goodRows tb a = allBelow (rows tb a) (λ i. eqb (rowReplyAt tb a i) 0 && climbs tb a i)
 
 -- an agent: 1 to 32 rows, each within the rules, and 0 in the places past them
 unfoldable pub goodAgent : List ℕ → ℕ → Bool

@@ -1,4 +1,5 @@
 // The check of a table's words.
+use crate::climbing::row_climbs;
 use crate::layout::MOST_AGENTS;
 use crate::layout::MOST_ROWS;
 use crate::layout::ROWS_AT;
@@ -12,8 +13,7 @@ use crate::layout::start_place;
 use crate::replies::ACCEPTED;
 use crate::replies::BAD_TABLE;
 use crate::replies::BUFFER_TOO_SHORT;
-use crate::rows::row_at;
-use crate::rows::row_reply;
+use crate::rows::row_reply_at;
 use crate::words::all_zero;
 ghost use mathlib.Core.Path.{_≡_};
 ghost use Prim.Native.Nat.{_≤_, _<_};
@@ -28,16 +28,14 @@ fn rows_are_good(table: &[u32], a: usize, c: u32) -> bool
     requires { ⌜ (tableWords ≤ length (now table)) × (a < 16) × (c ≡ rows (now table) a) × (c ≤ 32) ⌝ }
     ensures { λ r. ⌜ r ≡ goodRows (now (table .entry)) a ⌝ }
 {
-    let mut early = 0;
-    let mut late = 0;
     let mut i = 0;
     while i < c {
-        let r = row_at(table, a, i as usize);
-        if row_reply(r, i, c, early, late) != ACCEPTED {
+        if row_reply_at(table, a, i, c) != ACCEPTED {
             return false;
         }
-        early = r.early;
-        late = r.late;
+        if !row_climbs(table, a, i as usize, c as usize) {
+            return false;
+        }
         i += 1;
     }
     true

@@ -7,13 +7,16 @@ use crate::replies::ACCEPTED;
 use crate::replies::BAD_FIELD;
 use crate::replies::BAD_TARGET;
 use crate::replies::BAD_WINDOW;
-use crate::replies::WINDOW_GOES_BACK;
 ghost use mathlib.Core.Path.{_≡_};
-ghost use Prim.Native.Nat.{_≤_, _<_};
+ghost use Prim.Native.Nat.{ℕ, _≤_, _<_};
 ghost use lib.ListN.{length};
-ghost use Rattle.tables.specs.Layout.{row, rowOf, tableWords};
+ghost use Rattle.tables.specs.Layout.{rows, row, rowOf, tableWords};
 ghost use Rattle.tables.specs.Family.{familyOf};
-ghost use Rattle.tables.specs.Rows.{within, fieldsFit, wellFormed, rowReply};
+ghost use Rattle.tables.specs.Rows.{wellFormed, rowReply};
+ghost use Rattle.tables.specs.Table.{rowReplyAt};
+
+// The op of a JUMP, the one row that goes on at p+1+n alone.
+pub const JUMP: u32 = 0x11;
 
 // The family that an op is in: the one place where an op's number is matched.
 pub fn family_of(op: u32) -> Family
@@ -29,7 +32,7 @@ pub fn family_of(op: u32) -> Family
 }
 
 // A row from its four words.
-pub fn row_of(code: u32, k: u32, early: u32, late: u32) -> Row
+fn row_of(code: u32, k: u32, early: u32, late: u32) -> Row
     ensures { λ r. ⌜ r ≡ rowOf code k early late ⌝ }
 {
     Row {
@@ -52,75 +55,80 @@ pub fn row_at(table: &[u32], a: usize, i: usize) -> Row
     row_of(table[p], table[p + 1], table[p + 2], table[p + 3])
 }
 
-// Whether a field is at most its limit where the row names it, and 0 where it does not.
-fn is_within(named: bool, limit: u32, v: u32) -> bool
-    ensures { λ r. ⌜ r ≡ within named limit v ⌝ }
-{
-    if named { v <= limit } else { v == 0 }
-}
+// The bits of a code word that must be 0, by the fields that its row names: x and y are at most 3, n is at most 31, and those not named are 0.
+const ALL_BUT_X: u32 = 0x00FC_FFFF;
 
-// Whether the fields that are named (x always, but for JUMP) are in range and the others 0.
-fn has_fields(r: Row, x: bool, y: bool, n: bool, k: bool) -> bool
-    ensures { λ q. ⌜ q ≡ fieldsFit r x y n k ⌝ }
-{
-    if !is_within(x, 3, r.x) {
-        return false;
-    }
-    if !is_within(y, 3, r.y) {
-        return false;
-    }
-    if !is_within(n, 31, r.n) {
-        return false;
-    }
-    if k {
-        return true;
-    }
-    r.k == 0
-}
+const ALL_BUT_X_Y: u32 = 0x00FC_FCFF;
+
+const ALL_BUT_X_N: u32 = 0x00FC_FFE0;
+
+const ALL_BUT_N: u32 = 0x00FF_FFE0;
 
 // Whether the op is known, the registers are 0 to 3, n is 0 to 31, and the fields that are not named are 0.
-fn is_well_formed(r: Row) -> bool
-    ensures { λ q. ⌜ q ≡ wellFormed r ⌝ }
+fn is_well_formed(code: u32, k: u32) -> bool
+    ensures { λ q. ⌜ ((early late : ℕ) → q ≡ wellFormed (rowOf code k early late)) ⌝ }
 {
-    let op = r.op;
+    let op = code / 16777216;
     let family = family_of(op);
     match family {
         Family::Local => {
             if op == 0 {
-                has_fields(r, true, false, false, true)
-            } else {
-                has_fields(r, true, true, false, false)
+                return code & ALL_BUT_X == 0;
             }
+            if code & ALL_BUT_X_Y != 0 {
+                return false;
+            }
+            return k == 0;
         }
-        Family::Move => has_fields(r, op == 0x10, false, true, false),
-        Family::Send => has_fields(r, true, false, false, true),
-        Family::Receive => has_fields(r, true, false, true, true),
-        Family::Unknown => false,
+        Family::Move => {
+            if op == 0x10 {
+                if code & ALL_BUT_X_N != 0 {
+                    return false;
+                }
+                return k == 0;
+            }
+            if code & ALL_BUT_N != 0 {
+                return false;
+            }
+            return k == 0;
+        }
+        Family::Send => {
+            return code & ALL_BUT_X == 0;
+        }
+        Family::Receive => {
+            return code & ALL_BUT_X_N == 0;
+        }
+        Family::Unknown => {
+            return false;
+        }
     }
 }
 
-// A row's refusal, 4 to 7, or 0: row r at place i of an agent of c rows, after a row with the window from e to l.
-pub fn row_reply(r: Row, i: u32, c: u32, e: u32, l: u32) -> u32
+// A row's refusal, 4 to 6, or 0: the row of four words at place i of an agent of c rows.
+pub fn row_reply(code: u32, k: u32, early: u32, late: u32, i: u32, c: u32) -> u32
     requires { ⌜ i < c ⌝ }
-    ensures { λ q. ⌜ q ≡ rowReply r i c e l ⌝ }
+    ensures { λ q. ⌜ q ≡ rowReply (rowOf code k early late) i c ⌝ }
 {
-    if !is_well_formed(r) {
+    if !is_well_formed(code, k) {
         return BAD_FIELD;
     }
-    if c - i - 1 < r.n {
+    if c - i - 1 < code % 256 {
         return BAD_TARGET;
     }
-    if r.late <= r.early {
+    if late <= early {
         return BAD_WINDOW;
     }
-    if LAST_TIME < r.late {
+    if LAST_TIME < late {
         return BAD_WINDOW;
-    }
-    if r.early < e {
-        return WINDOW_GOES_BACK;
-    }
-    if r.late < l {
-        return WINDOW_GOES_BACK;
     }
     ACCEPTED
+}
+
+// The same of row i of agent a, in the words of a table.
+pub fn row_reply_at(table: &[u32], a: usize, i: u32, c: u32) -> u32
+    requires { ⌜ (tableWords ≤ length (now table)) × (a < 16) × (c ≡ rows (now table) a) × (c ≤ 32) × (i < c) ⌝ }
+    ensures { λ q. ⌜ q ≡ rowReplyAt (now (table .entry)) a i ⌝ }
+{
+    let p = row_place(a, i as usize);
+    row_reply(table[p], table[p + 1], table[p + 2], table[p + 3], i, c)
 }

@@ -1,10 +1,12 @@
+-- `read` meets its contract: each pass's refusal is the reply, and where none refuses the words are the table's. Assumes nothing.
+use borrow.Author.Needs.{needs}
 use mathlib.Core.Path.{_≡_, sym, ap, _∙_}
 use Rattle.tables.specs.Frames.{framesOf}
-use Rattle.reading.specs.Reader.{inPlace}
+use Rattle.reading.specs.Reader.{inPlace, rowsGood, tableClimbs, framesReply}
 use Rattle.reading.specs.Calls.{readOutcome}
 use Rattle.reading.specs.declared.Told.{Told}
-use Rattle.reading.proofs.Outcomes.{short-table, not-in-place, not-good, all-good}
-use borrow.Author.Needs.{needs}
+use Rattle.reading.proofs.Outcomes.{short-table, misplaced, row-refused, rows-passed, read-refused, read-accepted}
+use Rattle.reading.proofs.ReadGood.{climbs-ready}
 use Rattle.reading.proofs.reading.read.Statement.{statement}
 use Rattle.reading.proofs.reading.read.Tie as tie
 
@@ -17,8 +19,12 @@ in-place-requires c κs = search needs
 returns-2 : tie.Need-returns-2
 returns-2 c =
     let g = c .before .before .before .before .before .before .args in
-    not-in-place (g .text .now) (g .table .now) (c .before .before .before .if1 .left) _ (c .before .before .in-place .ensures) (c .if2 .taken)
+    let e = c .before .before .in-place .ensures in
+    read-refused (g .text .now) (g .table .now) (c .before .before .before .if1 .left) _
+    (e ∙ sym (misplaced (framesOf (g .text .now)) (λ z. c .if2 .taken (ap (λ (t : Told). t .reply) e ∙ z))))
+    (c .if2 .taken)
 
+-- the lines are in their places
 placed : (c : tie.Else2) → inPlace 1 0 0 (framesOf (c .before .before .before .before .before .before .args .text .now)) .reply ≡ 0
 placed c = ap (λ (t : Told). t .reply) (sym (c .before .before .in-place .ensures)) ∙ c .if2 .left
 
@@ -33,46 +39,65 @@ take-rows-requires c κs = (placed (c .before .before), c .before .blank-table .
 
 returns-3 : tie.Need-returns-3
 returns-3 c =
-    let e = c .before .before .before .before .before .before in
+    let t = c .before .before .before in
+    let e = t .before .before .before in
     let g = e .before .before .before .before .before .before .args in
-    not-good
-    (g .text .now)
-    (g .table .now)
-    (e .before .before .before .if1 .left)
-    (placed e)
-    _
-    (c .before .before .before .take-rows .ensures .0)
+    let r = t .take-rows .ensures .0 in
+    read-refused (g .text .now) (g .table .now) (e .before .before .before .if1 .left) _
+    (r ∙ sym (row-refused (framesOf (g .text .now)) (placed e) (λ z. c .if3 .taken (ap (λ (u : Told). u .reply) r ∙ z))))
     (c .if3 .taken)
+
+-- every row has passed 4 to 6, and the words are the table's
+passed : (c : tie.Else3) → rowsGood 1 0 0 (framesOf (c .before .before .before .before .before .before .before .before .before .before .before .before .args .text .now)) .reply ≡ 0
+passed c = ap (λ (t : Told). t .reply) (sym (c .before .before .before .take-rows .ensures .0)) ∙ c .if3 .left
+
+slice-aggregate-table-climbs : tie.Need-slice-aggregate-table-climbs
+slice-aggregate-table-climbs c = search needs
+
+table-climbs-requires : tie.Need-table-climbs-requires
+table-climbs-requires c κs =
+    let p = c .before in
+    let t = p .before .before .before in
+    climbs-ready _ _ (placed (t .before .before .before)) (passed p) (t .take-rows .ensures .1 (p .if3 .left))
+
+-- so what is told of their windows is the reply
+told-is : (c : tie.After-table-climbs)
+    → c .table-climbs .result ≡ framesReply (framesOf (c .before .before .before .before .before .before .before .before .before .before .before .before .before .before .args .text .now))
+told-is c =
+    let p = c .before .before in
+    let t = p .before .before .before in
+    let e = t .before .before .before in
+    c .table-climbs .ensures ∙ ap tableClimbs (t .take-rows .ensures .1 (p .if3 .left)) ∙ sym (rows-passed _ (placed e) (passed p))
+
+returns-4 : tie.Need-returns-4
+returns-4 c =
+    let t = c .before .before in
+    let e = t .before .before .before .before .before .before .before .before in
+    let g = e .before .before .before .before .before .before .args in
+    read-refused (g .text .now) (g .table .now) (e .before .before .before .if1 .left) _ (told-is t) (c .if4 .taken)
 
 slice-aggregate-put-table : tie.Need-slice-aggregate-put-table
 slice-aggregate-put-table c = search needs
 
 put-table-requires : tie.Need-put-table-requires
 put-table-requires c κs =
-    let t = c .before .before .before .before .before in
+    let t = c .before .before .before .before .before .before .before .before .before in
     let e = t .before .before .before in
     (t .take-rows .kept .1 .0 ∙ t .before .before .blank-table .ensures, e .before .before .before .if1 .left)
 
 same-length : tie.Need-same-length
 same-length c = search needs
 
-returns-4 : tie.Need-returns-4
-returns-4 c =
-    let e = c .before .before .before .before .before .before .before .before .before .before .before in
-    let t = c .before .before .before .before .before .before .before .before in
+returns-5 : tie.Need-returns-5
+returns-5 c =
+    let t = c .before .before .before .before .before .before .before in
+    let p = t .before .before in
+    let r = p .before .before .before in
+    let e = r .before .before .before in
     let g = e .before .before .before .before .before .before .args in
-    let z = c .before .before .before .before .before .if3 .left in
-    ap (readOutcome (t .take-rows .result)) (c .before .before .put-table .ensures)
-    ∙ all-good
-    (g .text .now)
-    (g .table .now)
-    (e .before .before .before .if1 .left)
-    (placed e)
-    (t .take-rows .result)
-    (t .take-rows .ensures .0)
-    z
-    _
-    (t .take-rows .ensures .1 z)
+    ap (readOutcome (t .table-climbs .result)) (c .before .before .put-table .ensures)
+    ∙ read-accepted (g .text .now) (g .table .now) (e .before .before .before .if1 .left) _ (told-is t) (c .before .before .before .before .before .if4 .left) _
+    (r .take-rows .ensures .1 (p .if3 .left))
 
 pub read-spec : {M : Type 1} → statement M
 read-spec =
@@ -85,7 +110,10 @@ read-spec =
     slice-aggregate-take-rows
     take-rows-requires
     returns-3
+    slice-aggregate-table-climbs
+    table-climbs-requires
+    returns-4
     slice-aggregate-put-table
     put-table-requires
     same-length
-    returns-4)
+    returns-5)

@@ -11,7 +11,6 @@ use Rattle.tables.specs.Frames.{fourWords}
 use Rattle.tables.specs.Heads.{lineAt, wordsAt}
 use Rattle.tables.specs.Rows.{rowReply}
 use Rattle.reading.specs.Reader.{rowIn}
-use Rattle.tables.specs.declared.Row.{Row}
 use Rattle.tables.specs.declared.frames.Line.the-variants.{Opens, Gives}
 use Rattle.reading.proofs.Arms.{no-frame}
 use Rattle.tables.proofs.Heads.{full}
@@ -24,10 +23,10 @@ use Rattle.reading.proofs.reading.take_rows.Statement.{statement}
 use Rattle.reading.proofs.reading.take_rows.Tie as tie
 
 abbrev Inv-loop : tie.InvT-loop
-Inv-loop text table₀ p₀ n₀ a₀ c₀ i₀ early₀ late₀ table p n a c i early late = Turn text p n c i early late × Filling text table p a i
+Inv-loop text table₀ p₀ n₀ a₀ c₀ i₀ table p n a c i = Turn text p n c i × Filling text table p a i
 
 abbrev μ-loop : tie.MeasureT-loop
-μ-loop text table₀ p₀ n₀ a₀ c₀ i₀ early₀ late₀ table p n a c i early late = length text - p
+μ-loop text table₀ p₀ n₀ a₀ c₀ i₀ table p n a c i = length text - p
 
 clear-requires : tie.Need-clear-requires Inv-loop μ-loop
 clear-requires c κs = tt
@@ -88,7 +87,7 @@ loop-again c =
     let e = c .before .before .before .before .before in
     let o = opens-here e in (
       subst
-          (λ (k : ℕ). Turn (textOf (e .before .before .before)) (l .p + 37) (l .n + 1) k 0 0 0)
+          (λ (k : ℕ). Turn (textOf (e .before .before .before)) (l .p + 37) (l .n + 1) k 0)
           (sym (c .rows-next .ensures))
           (open-turn (l .inv .0) o),
       open-words (l .inv .1) o _ (c .before .before .before .put-agent .ensures),
@@ -131,9 +130,6 @@ word-requires-4 c κs =
     let t = c .before .before .before .before .before .before .before .loop .inv .0 in
     (t .within, gives-line t (gives-here (c .before .before .before)) .digits, omega arith)
 
-row-of-requires : tie.Need-row-of-requires Inv-loop μ-loop
-row-of-requires c κs = tt
-
 -- the four words are the line's, so the row and its reply are too
 words-are : (c : tie.After-word4 Inv-loop μ-loop)
     → let e = c .before .before .before .before in
@@ -148,74 +144,68 @@ words-are c =
       c .word4 .ensures,
     )
 
-row-is : (c : tie.After-row-of Inv-loop μ-loop)
-    → let e = c .before .before .before .before .before in
-    c .row-of .result ≡ rowIn (wordsAt (textOf (e .before .before .before)) (e .before .before .before .before .loop .p))
-row-is c = c .row-of .ensures ∙ ap rowIn (words-are (c .before))
-
 reply-is : (c : tie.After-row-reply Inv-loop μ-loop)
-    → let e = c .before .before .before .before .before .before in
+    → let e = c .before .before .before .before .before in
     let l = e .before .before .before .before .loop in
-    rowReply (rowIn (wordsAt (textOf (e .before .before .before)) (l .p))) (l .i) (l .c) (l .early) (l .late) ≡ c .row-reply .result
-reply-is c = rw (← row-is (c .before)) (sym (c .row-reply .ensures))
+    rowReply (rowIn (wordsAt (textOf (e .before .before .before)) (l .p))) (l .i) (l .c) ≡ c .row-reply .result
+reply-is c =
+    let l = c .before .before .before .before .before .before .before .before .before .loop in
+    ap (λ (ws : List ℕ). rowReply (rowIn ws) (l .i) (l .c)) (sym (words-are (c .before))) ∙ sym (c .row-reply .ensures)
 
 cast-row-reply : tie.Need-cast-row-reply Inv-loop μ-loop
 cast-row-reply c =
-    let e = c .before .before .before .before .before in
+    let e = c .before .before .before .before in
     omega (arith, row-below (e .before .before .before .before .loop .inv .0) (gives-here e))
 
 row-reply-requires : tie.Need-row-reply-requires Inv-loop μ-loop
 row-reply-requires c κs =
-    let e = c .before .before .before .before .before in
+    let e = c .before .before .before .before in
     row-below (e .before .before .before .before .loop .inv .0) (gives-here e) .0
 
 same-length : tie.Need-same-length Inv-loop μ-loop
 same-length c =
-    let e = c .before .before .before .before .before .before .before in
+    let e = c .before .before .before .before .before .before in
     e .before .before .before .before .loop .inv .1 .words ∙ sym (e .before .before .before .before .before .before .before .before .before .before .before .pre .1)
 
 returns : tie.Need-returns Inv-loop μ-loop
 returns c =
-    let e = c .before .before .before .before .before .before .before in (
+    let e = c .before .before .before .before .before .before in (
       sym (row-refused (e .before .before .before .before .loop .inv .0) (gives-here e) _ (reply-is (c .before)) (c .if1 .taken)),
       λ z. absurd (c .if1 .taken z),
     )
 
 put-row-requires : tie.Need-put-row-requires Inv-loop μ-loop
 put-row-requires c κs =
-    let e = c .before .before .before .before .before .before .before .before in
+    let e = c .before .before .before .before .before .before .before in
     let t = e .before .before .before .before .loop .inv .1 in
     let g = gives-here e in
     (t .words, agent-open _ _ (t .within) (t .placed) g, t .placed .agents, Accepted.row-below _ _ (t .within) (t .placed) g)
 
 add-p-2 : tie.Need-add-p-2 Inv-loop μ-loop
-add-p-2 c = omega (arith, row-fits (c .before .before .before .before .before .before .before .before .before .before .before))
+add-p-2 c = omega (arith, row-fits (c .before .before .before .before .before .before .before .before .before .before))
 
 add-n-2 : tie.Need-add-n-2 Inv-loop μ-loop
 add-n-2 c =
-    let e = c .before .before .before .before .before .before .before .before .before .before .before in
+    let e = c .before .before .before .before .before .before .before .before .before .before in
     omega (arith, few-lines (e .before .before .before .before .loop .inv .0))
 
 add-i : tie.Need-add-i Inv-loop μ-loop
 add-i c =
-    let e = c .before .before .before .before .before .before .before .before .before .before .before in
+    let e = c .before .before .before .before .before .before .before .before .before .before in
     omega (arith, row-below (e .before .before .before .before .loop .inv .0) (gives-here e))
 
 loop-less-2 : tie.Need-loop-less-2 Inv-loop μ-loop
-loop-less-2 c = omega (arith, row-room (c .before .before .before .before .before .before .before .before .before .before .before))
+loop-less-2 c = omega (arith, row-room (c .before .before .before .before .before .before .before .before .before .before))
 
 loop-again-2 : tie.Need-loop-again-2 Inv-loop μ-loop
 loop-again-2 c =
-    let e = c .before .before .before .before .before .before .before .before .before .before .before in
+    let e = c .before .before .before .before .before .before .before .before .before .before in
     let l = e .before .before .before .before .loop in
     let r = c .before .before .before .before in (
-      subst
-          (λ (w : Row). Turn (textOf (e .before .before .before)) (l .p + 37) (l .n + 1) (l .c) (l .i + 1) (w .early) (w .late))
-          (sym (row-is (r .before .before)))
-          (row-turn (l .inv .0) (gives-here e) (reply-is (r .before) ∙ r .if1 .left)),
+      row-turn (l .inv .0) (gives-here e) (reply-is (r .before) ∙ r .if1 .left),
       row-words (l .inv .1) (gives-here e) _
           (c .before .before .put-row .ensures
-          ∙ ap (λ (ws : List ℕ). sets (set (l .table) (countPlace (l .a - 1)) (l .i + 1)) (rowPlace (l .a - 1) (l .i)) ws) (words-are (r .before .before .before))),
+          ∙ ap (λ (ws : List ℕ). sets (set (l .table) (countPlace (l .a - 1)) (l .i + 1)) (rowPlace (l .a - 1) (l .i)) ws) (words-are (r .before .before))),
     )
 
 -- ---- the end
@@ -260,7 +250,6 @@ take-rows-spec =
     word-requires-2
     word-requires-3
     word-requires-4
-    row-of-requires
     cast-row-reply
     row-reply-requires
     same-length

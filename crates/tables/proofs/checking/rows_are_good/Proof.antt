@@ -1,55 +1,68 @@
--- `rows_are_good` meets its contract. The loop holds that the rows taken pass, and the window of the last. Assumes nothing.
+-- `rows_are_good` meets its contract. The loop holds that the rows taken pass. Assumes nothing.
 use borrow.Author.Needs.{needs}
 use mathlib.Core.Path.{_≡_, sym, _∙_}
+use mathlib.Core.Bool.{true}
 use native.Mathlib.Omega.{arith}
-use Prim.Native.Nat.{_≤_, _-_}
-use Rattle.tables.proofs.Loops.{RowsTo, rows-start, rows-next, rows-stop, rows-end}
+use Prim.Native.Nat.{_≤_, _<_, _-_}
+use Rattle.tables.specs.Basics.{allBelow}
+use Rattle.tables.specs.Layout.{rows}
+use Rattle.tables.proofs.Tests.{refused, granted}
+use Rattle.tables.proofs.Loops.{rowPasses, row-passes, row-stops, window-stops, rows-end, below-none, below-next}
 use Rattle.tables.proofs.checking.rows_are_good.Statement.{statement}
 use Rattle.tables.proofs.checking.rows_are_good.Tie as tie
 
 abbrev Inv-loop : tie.InvT-loop
-Inv-loop table a c early₀ late₀ i₀ early late i = (i ≤ c) × RowsTo table a i early late
+Inv-loop table a c i₀ i = (allBelow i (rowPasses table a) ≡ true) × (i ≤ c)
 
 abbrev μ-loop : tie.MeasureT-loop
-μ-loop table a c early₀ late₀ i₀ early late i = c - i
+μ-loop table a c i₀ i = c - i
 
 loop-holds : tie.Need-loop-holds Inv-loop μ-loop
-loop-holds c = (search needs, rows-start _ _)
+loop-holds c = (below-none _, search needs)
 
-cast-row-at : tie.Need-cast-row-at Inv-loop μ-loop
-cast-row-at c = search needs
-
-row-at-requires : tie.Need-row-at-requires Inv-loop μ-loop
-row-at-requires c κs = search needs
-
-row-reply-requires : tie.Need-row-reply-requires Inv-loop μ-loop
-row-reply-requires c κs = search needs
+loop-again : tie.Need-loop-again Inv-loop μ-loop
+loop-again c =
+    let t = c .before .before .before in (
+      below-next _ _ (t .before .before .loop .inv .0)
+          (row-passes _ _ _ (sym (t .row-reply-at .ensures) ∙ c .before .before .if1 .left) (granted _ _ (c .before .row-climbs .ensures) (c .if2 .left))),
+      search needs,
+    )
 
 returns : tie.Need-returns Inv-loop μ-loop
 returns c =
+    let t = c .before .before in
+    let count = t .before .before .before .pre .2 in
+    let taken = t .loop-test .taken in
+    row-stops _ _ _ (omega arith) (λ e. c .if1 .taken (c .before .row-reply-at .ensures ∙ e))
+
+returns-2 : tie.Need-returns-2 Inv-loop μ-loop
+returns-2 c =
     let t = c .before .before .before .before in
-    rows-stop _ _ _ _ _ _ _ (t .loop .inv .1) (t .before .before .pre .2) (c .before .before .row-at .ensures)
-    (c .before .before .before .loop-test .taken)
-    (λ e. c .if1 .taken (c .before .row-reply .ensures ∙ e))
+    let count = t .before .before .before .pre .2 in
+    let taken = t .loop-test .taken in
+    window-stops _ _ _ (omega arith) (refused _ _ (c .before .row-climbs .ensures) (c .if2 .taken))
+
+returns-3 : tie.Need-returns-3 Inv-loop μ-loop
+returns-3 c =
+    let count = c .before .before .before .pre .2 in
+    rows-end _ _ _ (c .before .loop .inv .0) (omega arith)
+
+row-reply-at-requires : tie.Need-row-reply-at-requires Inv-loop μ-loop
+row-reply-at-requires c κs = search needs
+
+cast-row-climbs : tie.Need-cast-row-climbs Inv-loop μ-loop
+cast-row-climbs c = search needs
+
+row-climbs-requires : tie.Need-row-climbs-requires Inv-loop μ-loop
+row-climbs-requires c κs =
+    let p = c .before .before .before .before .before .pre in
+    (p .0, p .1, p .2, p .3, c .before .before .loop-test .taken, sym (c .before .row-reply-at .ensures) ∙ c .if1 .left)
 
 add-i : tie.Need-add-i Inv-loop μ-loop
 add-i c = search needs
 
 loop-less : tie.Need-loop-less Inv-loop μ-loop
 loop-less c = search needs
-
-loop-again : tie.Need-loop-again Inv-loop μ-loop
-loop-again c =
-    let t = c .before .before .before .before in (
-      search needs,
-      rows-next _ _ _ _ _ _ _ (t .loop .inv .1) (t .before .before .pre .2) (c .before .before .row-at .ensures)
-          (sym (c .before .row-reply .ensures) ∙ c .if1 .left),
-    )
-
-returns-2 : tie.Need-returns-2 Inv-loop μ-loop
-returns-2 c =
-    let full : c .before .loop .i ≡ c .before .before .before .args .c = omega arith in
-    rows-end _ _ _ _ _ (c .before .loop .inv .1) (full ∙ c .before .before .before .pre .2)
 
 pub rows-are-good-spec : {M : Type 1} → statement M
 rows-are-good-spec =
@@ -58,11 +71,12 @@ rows-are-good-spec =
     Inv-loop
     μ-loop
     loop-holds
-    cast-row-at
-    row-at-requires
-    row-reply-requires
+    row-reply-at-requires
     returns
+    cast-row-climbs
+    row-climbs-requires
+    returns-2
     add-i
     loop-less
     loop-again
-    returns-2)
+    returns-3)
