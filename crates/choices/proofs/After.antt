@@ -30,35 +30,24 @@ abbrev pub Carries : (ℕ → Type 0) → Best → Type 0
 Carries W Nothing = Unit
 Carries W (Message l b i v) = W v
 
--- a row only puts a value into a register, one of those of which W is shown here, or goes on to a position from p+1 to p+1+n
-module _ (P : Agent → Type 0) (W : ℕ → Type 0) (r : Row) (s : Agent) (puts : (x v : ℕ) → W v → P (put x v s))
-    (goes : (p : ℕ) → s .pos < p → p ≤ s .pos + 1 + r .n → P (goTo p s))
+-- a row only puts a value into a register, one of those of which W is shown here, or goes on; where to is `after-goes` in Onward
+module _ (P : Agent → Type 0) (W : ℕ → Type 0) (r : Row) (s : Agent) (puts : (x v : ℕ) → W v → P (put x v s)) (goes : (p : ℕ) → P (goTo p s))
     (k : W (r .k)) (remainder : (n : ℕ) → W (n % 2 ^ 32)) (ones : (y : ℕ) → W (onesIn 32 y)) (low : (y : ℕ) → W (trailingZeros 32 y)) where
   either : (b : Bool) (x y : Agent) → P x → P y → P (cond b x y)
   either true x y h k = h
   either false x y h k = k
 
-  skips : (b : Bool) → P (goTo (s .pos + 1 + cond b (r .n) 0) s)
-  skips true = goes (s .pos + 1 + r .n) (omega arith) (omega arith)
-  skips false = goes (s .pos + 1 + 0) (omega arith) (omega arith)
-
-  jumps : P (goTo (s .pos + 1 + r .n) s)
-  jumps = goes (s .pos + 1 + r .n) (omega arith) (omega arith)
-
-  goes-on : P (goTo (s .pos + 1) s)
-  goes-on = goes (s .pos + 1) (omega arith) (omega arith)
-
   receives : (m : Best) → Carries W m → P (receive r m s)
   unfolding receive
-  receives Nothing c = jumps
+  receives Nothing c = goes (s .pos + 1 + r .n)
   receives (Message l b i v) c = puts (r .x) v c
 
   pub after-made : (m : Best) → Carries W m → P (after r m s)
   unfolding after
-  after-made m c = search (either, puts, skips, jumps, goes-on, receives, k, remainder, ones, low, c) depth 14
+  after-made m c = search (either, puts, goes, receives, k, remainder, ones, low, c) depth 14
 
 -- whatever the value
-after-is : (P : Agent → Type 0) (r : Row) (s : Agent) → ((x v : ℕ) → P (put x v s)) → ((p : ℕ) → s .pos < p → p ≤ s .pos + 1 + r .n → P (goTo p s)) → (m : Best) → P (after r m s)
+after-is : (P : Agent → Type 0) (r : Row) (s : Agent) → ((x v : ℕ) → P (put x v s)) → ((p : ℕ) → P (goTo p s)) → (m : Best) → P (after r m s)
 after-is P r s puts goes m = after-made P (λ v. Unit) r s (λ x v t. puts x v) goes tt (λ n. tt) (λ y. tt) (λ y. tt) m (any m)
   where
     any : (m : Best) → Carries (λ v. Unit) m
@@ -66,11 +55,7 @@ after-is P r s puts goes m = after-made P (λ v. Unit) r s (λ x v t. puts x v) 
     any (Message l b i v) = tt
 
 pub after-four : (r : Row) (m : Best) (s : Agent) → length (s .regs) ≡ 4 → length (after r m s .regs) ≡ 4
-after-four r m s four = after-is (λ g. length (g .regs) ≡ 4) r s (λ x v. length-set (s .regs) x v ∙ four) (λ p h k. four) m
-
-pub after-on : (r : Row) (m : Best) (s : Agent) → (s .pos < after r m s .pos) × (after r m s .pos ≤ s .pos + 1 + r .n)
-after-on r m s =
-    after-is (λ g. (s .pos < g .pos) × (g .pos ≤ s .pos + 1 + r .n)) r s (λ x v. (omega arith, omega arith)) (λ p h k. (h, k)) m
+after-four r m s four = after-is (λ g. length (g .regs) ≡ 4) r s (λ x v. length-set (s .regs) x v ∙ four) (λ p. four) m
 
 -- ---- the words after a step
 
@@ -275,10 +260,3 @@ module _ (tb st : List ℕ) (a t : ℕ) (long : length st ≡ 1105) (low : a < 1
       value-after =
           by-place (current tb st a .op) b a i (pos st a) (value (accepted tb st a t) b i) (getD (agentAt st a .regs) (current tb st a .x) 0) (value st b i)
           (λ o d e. rw (d, e) (sent-own-value o)) value-unsent value-away
-
-  -- the agent's position rises, to one that its row may go on at
-  pub pos-rises : pos st a < pos (accepted tb st a t) a
-  pos-rises = rw accepted-pos (after-on (current tb st a) (best tb (pool st) (current tb st a)) (agentAt st a) .0)
-
-  pub pos-within : (c : ℕ) → pos st a + 1 + current tb st a .n ≤ c → pos (accepted tb st a t) a ≤ c
-  pos-within c target = rw accepted-pos (let h = after-on (current tb st a) (best tb (pool st) (current tb st a)) (agentAt st a) .1 in omega arith)

@@ -12,7 +12,7 @@ use Rattle.tables.proofs.Tests.{and-yes}
 use Rattle.tables.specs.Basics.{allBelow}
 use Rattle.tables.specs.Layout.{agents, rows, row}
 use Rattle.tables.specs.Table.{goodTable}
-use Rattle.tables.proofs.Good.{few, few-rows, no-count}
+use Rattle.tables.proofs.Good.{few, few-rows, table-facts, no-count}
 use Rattle.choices.specs.State.{clock, pos}
 use Rattle.choices.specs.Fit.{unfinished, current, inTime}
 use Rattle.choices.specs.Step.{canGo}
@@ -101,11 +101,11 @@ module _ (tb : List ℕ) (good : goodTable tb ≡ true) where
   short b h = go (decLe (agents tb) b)
     where
       go : Dec (agents tb ≤ b) → rows tb b ≤ 32
-      go (yes l) = omega (arith, no-count tb good b l h)
+      go (yes l) = omega (arith, no-count tb (table-facts tb good) b l h)
       go (no n) = few-rows tb good b (omega arith)
 
   -- an agent past the count has ended, so all 16 set the deadline
   pub in-time-16 : (st : List ℕ) (t : ℕ) → inTime tb st t ≡ allBelow 16 (λ b. not (unfinished tb st b) || leb t (current tb st b .late))
   unfolding inTime
   in-time-16 st t =
-      sym (below-more (agents tb) 16 (λ b. not (unfinished tb st b) || leb t (current tb st b .late)) (few tb good) (λ b l h. ended-free tb st b (omega (arith, no-count tb good b l h)) t))
+      sym (below-more (agents tb) 16 (λ b. not (unfinished tb st b) || leb t (current tb st b .late)) (few tb good) (λ b l h. ended-free tb st b (omega (arith, no-count tb (table-facts tb good) b l h)) t))

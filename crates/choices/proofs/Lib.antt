@@ -3,6 +3,7 @@ pub mod Lists
 pub mod After
 pub mod Choice
 pub mod Effects
+pub mod Onward
 pub mod Looking
 pub mod Deadline
 pub mod Around

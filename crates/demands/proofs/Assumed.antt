@@ -9,7 +9,8 @@ use Rattle.pharos.proofs.GoodStates.{init-good}
 use Rattle.pharos.proofs.Invariants.{invariant, message-invariant}
 use Rattle.pharos.proofs.Filter.{filter-is-002's}
 use Rattle.tables.specs.Layout.{row, rows}
-use Rattle.tables.proofs.Good.{window, late-climbs, some as some-agents, some-rows}
+use Rattle.tables.proofs.Good.{window, window-on, some as some-agents, some-rows}
+use Rattle.tables.proofs.Onward.{rises}
 use Rattle.choices.specs.declared.Agent.{Agent}
 use Rattle.demands.specs.Instance.{published}
 use Rattle.demands.specs.Assumed.{AssumptionsHold, StartIsGood, StepsRaise, FilterOfTablesIs002's, InvariantsHold}
@@ -20,8 +21,7 @@ pub assumptions-hold : AssumptionsHold
 assumptions-hold tb table = let good = table .good in record {
   instrOf-type = λ a s real live. window tb good a real (s .pos) (leb-false _ _ live);
   Update-monotonic = λ a s real live msgs got live′.
-      let (up, _) = goes-on tb a s msgs (row tb a (s .pos)) got in
-      late-climbs tb good a real (s .pos) (exec (published tb) a s msgs got .0 .pos) (omega arith) (leb-false _ _ live′);
+      window-on tb good a real (s .pos) (leb-false _ _ live) _ (goes-on tb a s msgs (row tb a (s .pos)) got) (leb-false _ _ live′) .1;
   visible-cond = λ di dj h. ltb-true _ _ h;
 }
 
@@ -34,7 +34,7 @@ pub steps-raise : StepsRaise
 steps-raise tb a pre post e =
     let at : post .st a .pos ≡ exec (published tb) a (pre .st a) (pre .msgs) (e .got) .0 .pos =
     ap (λ (f : ℕ → Agent). f a .pos) (e .st) ∙ ap (λ (s : Agent). s .pos) (except-at (pre .st) a _) in
-    let (up, _) = goes-on tb a (pre .st a) (pre .msgs) (row tb a (pre .st a .pos)) (e .got) in
+    let (up, _) = rises (row tb a (pre .st a .pos)) _ _ (goes-on tb a (pre .st a) (pre .msgs) (row tb a (pre .st a .pos)) (e .got)) in
     omega arith
 
 pub filter-of-tables-is-002's : FilterOfTablesIs002's

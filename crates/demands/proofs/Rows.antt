@@ -1,6 +1,6 @@
 -- A row's instruction: what it sends and awaits, and that it does what the executive's row does. Assumes nothing.
 use mathlib.Core.Path.{_≡_, refl, sym, ap, _∙_}
-use mathlib.Core.Logic.{_≢_}
+use mathlib.Core.Logic.{_≢_, inl, inr}
 use mathlib.Core.Bool.{Bool, true, false, cond}
 use mathlib.Core.Option.{Option, none, some, Option·none-ne-some, Option·some-injective}
 use mathlib.Core.List.{List}
@@ -11,12 +11,14 @@ use lib.Dec.{eqb}
 use lib.ListN.{getD}
 use borrow.Author.Tests.{eqb-true, eqb-false, eq-eqb, ne-eqb}
 use Rattle.pharos.specs.Published.{Instruction, local, msgSent, msgAwaited, Messages, except, execIns}
+use Rattle.tables.specs.Basics.{OneOf}
+use Rattle.tables.specs.Rows.{goesOnTo}
 use Rattle.tables.specs.declared.Row.{Row}
 use Rattle.choices.specs.declared.Agent.{Agent}
 use Rattle.choices.specs.declared.Best.{Best}
 use Rattle.choices.specs.declared.Best.the-variants.{Nothing, Message}
 use Rattle.choices.specs.Effect.{goTo, after}
-use Rattle.choices.proofs.After.{after-on}
+use Rattle.choices.proofs.Onward.{after-goes}
 use Rattle.demands.specs.Demand2.{RowsAreModels}
 use Rattle.executive.proofs.Effects.{send-is-on, receive-found, receive-none}
 use Rattle.executive.proofs.Numbers.{ones-bits, low-first, sub-first}
@@ -112,14 +114,13 @@ module _ (T : List ℕ) (a : ℕ) (s : Agent) (msgs : Messages) where
       ≡ cond (eqb (r .op) 0x20) (except msgs a (except (msgs a) (s .pos) (some (getD (s .regs) (r .x) 0)))) msgs
   posted r got = posted-kind got (kind r)
 
-  -- whatever is got, a row goes on to a position from p+1 to p+1+n
-  on-kind : {r : Row} {i : Instruction Agent} (got : Option ℕ) → Kind r i
-      → let s′ = execIns (published T) a s msgs got i .0 in (s .pos < s′ .pos) × (s′ .pos ≤ s .pos + 1 + r .n)
-  on-kind got (sends op) = (omega arith, omega arith)
-  on-kind none (receives op) = (omega arith, omega arith)
-  on-kind (some v) (receives op) = (omega arith, omega arith)
-  on-kind {r} got (others p q) = rw (rows-are-models r s q) (after-on r Nothing s)
+  -- whatever is got, a row goes on at one of the rows that it can go on to
+  on-kind : {r : Row} {i : Instruction Agent} (got : Option ℕ) → Kind r i → OneOf (execIns (published T) a s msgs got i .0 .pos) (goesOnTo r (s .pos))
+  unfolding goesOnTo
+  on-kind got (sends op) = rw op (inl (add-zero (s .pos + 1)))
+  on-kind none (receives op) = rw op (inr (inl refl))
+  on-kind (some v) (receives op) = rw op (inl refl)
+  on-kind {r} got (others p q) = rw (rows-are-models r s q) (after-goes r Nothing s)
 
-  pub goes-on : (r : Row) (got : Option ℕ)
-      → let s′ = execIns (published T) a s msgs got (instructionOf r) .0 in (s .pos < s′ .pos) × (s′ .pos ≤ s .pos + 1 + r .n)
+  pub goes-on : (r : Row) (got : Option ℕ) → OneOf (execIns (published T) a s msgs got (instructionOf r) .0 .pos) (goesOnTo r (s .pos))
   goes-on r got = on-kind got (kind r)

@@ -39,7 +39,7 @@ low-small y = let m = trailing-le 32 y in omega arith
 
 after-small : (r : Row) (s : Agent) → Word (r .k) → Small (s .regs) → (m : Best) → Carries Word m → Small (after r m s .regs)
 after-small r s k regs m c =
-    after-made (λ g. Small (g .regs)) Word r s (λ x v h. small-set (s .regs) x v regs h) (λ p h l. regs) k remainder-small ones-small low-small m c
+    after-made (λ g. Small (g .regs)) Word r s (λ x v h. small-set (s .regs) x v regs h) (λ p. regs) k remainder-small ones-small low-small m c
 
 -- ---- a step
 

@@ -6,9 +6,9 @@ use lib.ListN.{replicate}
 use Rattle.tables.specs.Basics.{first, every, allBelow, allZero, zeroFrom}
 use Rattle.tables.specs.Layout.{rowOf}
 use Rattle.tables.specs.Lines.{lines, same, hexDigit, allHex, number, field, digitsLine}
-use Rattle.tables.specs.Rows.{rowReply, wellFormed, fieldsFit, namesOf, within}
+use Rattle.tables.specs.Rows.{rowReply, wellFormed, fieldsFit, namesOf, within, goesOnTo, notAbove}
 use Rattle.tables.specs.Cases.{exampleTable}
-use Rattle.tables.specs.Table.{goodTable, goodAgent, goodRows, rowReplyAt, earlyBefore, lateBefore}
+use Rattle.tables.specs.Table.{goodTable, goodAgent, goodRows, rowReplyAt, climbsTo, climbs}
 use Rattle.choices.specs.declared.Agent.{Agent}
 use Rattle.choices.specs.State.{startWords}
 use Rattle.choices.specs.Messages.{best, lookAgents, lookRows, look, visible, beats}
@@ -37,7 +37,7 @@ record Example : Type 0 where
   odd : through (0 ∷ 3 ∷ 1 ∷ []) 0 ≡ sender 0 ∷ []
 
 example : Example
-unfolding exampleTable through stepsFrom comesTo first every runRefusal startWords choiceReply stuck canGo inTime unfinished accepted withAgent withSent after receive best lookAgents lookRows look visible beats goodTable goodAgent goodRows rowReplyAt rowReply wellFormed fieldsFit namesOf within earlyBefore lateBefore rowOf zeroFrom allZero allBelow
+unfolding exampleTable through stepsFrom comesTo first every runRefusal startWords choiceReply stuck canGo inTime unfinished accepted withAgent withSent after receive best lookAgents lookRows look visible beats goodTable goodAgent goodRows rowReplyAt climbs climbsTo rowReply goesOnTo notAbove wellFormed fieldsFit namesOf within rowOf zeroFrom allZero allBelow
 example = record { sends = refl; receives = refl; cut = refl; odd = refl }
 
 -- the output that 01 gives

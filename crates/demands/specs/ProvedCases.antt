@@ -8,12 +8,12 @@ use lib.ListN.{getD, length, take, drop, replicate}
 use lib.Count.{onesIn, trailingZeros}
 use Rattle.tables.specs.Basics.{first, every, allBelow, allZero, zeroFrom}
 use Rattle.tables.specs.Layout.{tableWords, rowOf}
-use Rattle.tables.specs.Rows.{rowReply, wellFormed, fieldsFit, namesOf, within}
-use Rattle.tables.specs.Table.{goodTable, goodAgent, goodRows, rowReplyAt, earlyBefore, lateBefore}
+use Rattle.tables.specs.Rows.{rowReply, wellFormed, fieldsFit, namesOf, within, goesOnTo, notAbove}
+use Rattle.tables.specs.Table.{goodTable, goodAgent, goodRows, rowReplyAt, climbsTo, climbs}
 use Rattle.tables.specs.Lines.{lines, same, endLine, hexDigit, allHex, number, field, digitsLine}
 use Rattle.tables.specs.Faults.{faultReply, onlyDigits, beginsWith, judgeKind, judge}
 use Rattle.tables.specs.Frames.{frameOf, framesOf, fourWords}
-use Rattle.reading.specs.Reader.{inPlace, rowsGood, rowsNext, framesReply, loaded, tableOf}
+use Rattle.reading.specs.Reader.{inPlace, rowsGood, rowsNext, framesReply, loaded, tableOf, rowsClimb, firstTold, agentsClimb, tableClimbs}
 use Rattle.reading.specs.Calls.{readInto, framesInto}
 use Rattle.choices.specs.State.{stateWords, posPlace, regPlace, startWords}
 use Rattle.choices.specs.Messages.{best, lookAgents, lookRows, look, visible, beats}
@@ -41,7 +41,7 @@ agentsFrom st a zero = []
 agentsFrom st a (suc n) = getD st (posPlace a) 0 ∷ take 4 (drop (regPlace a) st) ++ agentsFrom st (a + 1) n
 
 holds : Case → Bool
-unfolding first every same text agentsFrom runInto runRefusal runFrom startWords choiceReply stuck canGo inTime unfinished accepted withAgent withSent after receive best lookAgents lookRows look visible beats goodTable goodAgent goodRows rowReplyAt rowReply wellFormed fieldsFit namesOf within earlyBefore lateBefore rowOf zeroFrom allZero allBelow readInto framesInto framesReply framesOf frameOf fourWords judge judgeKind onlyDigits beginsWith faultReply digitsLine allHex field number hexDigit lines inPlace rowsGood rowsNext loaded tableOf onesIn trailingZeros
+unfolding first every same text agentsFrom runInto runRefusal runFrom startWords choiceReply stuck canGo inTime unfinished accepted withAgent withSent after receive best lookAgents lookRows look visible beats goodTable goodAgent goodRows rowReplyAt climbs climbsTo rowReply goesOnTo notAbove wellFormed fieldsFit namesOf within rowOf zeroFrom allZero allBelow readInto framesInto framesReply framesOf frameOf fourWords judge judgeKind onlyDigits beginsWith faultReply digitsLine allHex field number hexDigit lines inPlace rowsGood rowsClimb firstTold agentsClimb tableClimbs rowsNext loaded tableOf onesIn trailingZeros
 holds (runs ls cs r n ss) =
     let q = runInto (readInto (text ls) (replicate tableWords 0) .table) (replicate stateWords 0) cs in
     eqb (q .reply) r && eqb (q .count) n && same (agentsFrom (q .state) 0 (length ss / 5)) ss
@@ -215,7 +215,7 @@ cases =
     ∷ 0x010000000000000000010000000400000008
     ∷ 0x010000000000000000010000000300000008
     ∷ [])
-    7 3
+    7 2
     ∷
     []
 

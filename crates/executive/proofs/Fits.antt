@@ -7,13 +7,14 @@ use Prim.Native.Nat.{ℕ, _<_, _≤_}
 use native.Mathlib.Decide.{ℕ-discrete}
 use native.Mathlib.Omega.{arith}
 use lib.ListN.{length}
-use Rattle.tables.specs.Layout.{agents, rows}
+use Rattle.tables.specs.Layout.{agents, rows, row}
 use Rattle.tables.specs.Table.{goodTable}
 use Rattle.choices.specs.State.{clock, pos, mark, value, posPlace, markPlace, valuePlace, startWords}
 use Rattle.choices.specs.Fit.{fits, current}
 use Rattle.choices.specs.Step.{choiceReply, accepted, InTime, Allowed}
-use Rattle.tables.proofs.Good.{few, few-rows, table-facts, target, window, late-bound, late-climbs}
-use Rattle.choices.proofs.After.{accepted-other, accepted-clock, accepted-pos-other, pos-rises, pos-within, sent-own-mark, mark-away, value-away, mark-unsent, value-unsent}
+use Rattle.tables.proofs.Good.{few, few-rows, table-facts, target, window, late-bound, window-on}
+use Rattle.choices.proofs.After.{accepted-other, accepted-clock, accepted-pos-other, sent-own-mark, mark-away, value-away, mark-unsent, value-unsent}
+use Rattle.choices.proofs.Onward.{pos-goes, pos-rises, pos-within}
 use Rattle.choices.proofs.Choice.{allowed}
 use Rattle.executive.proofs.Fitting.{Fits, Unsent, Sent, fits-says, fits-holds}
 use Rattle.executive.proofs.Start.{start-clock, start-low, start-register, start-high}
@@ -67,18 +68,24 @@ module _ (tb st : List ℕ) (good : goodTable tb ≡ true) (long : length st ≡
       go (yes e) =
           rw e (
             (let l = pos-rises tb st a t long low in omega arith),
-            pos-within tb st a t long low (rows tb a) (target tb good a (c .agent) (pos st a) (c .unended)),
+            (let l = pos-within tb st a t long low in let m = target tb good a (c .agent) (pos st a) (c .unended) in omega arith),
           )
       go (no n) =
           let e = accepted-pos-other tb st a t long low b (omega (arith, few tb good)) n in
           let p = f .position b h in (omega arith, omega arith)
 
   new-late : InTime tb new t
-  new-late b h live =
-      let p = new-position b h in
-      let l = late-climbs tb good b h (pos st b) (pos new b) (p .0) live in
-      let o = c .late b h (omega arith) in
-      omega arith
+  new-late b h live = go (ℕ-discrete b a)
+    where
+      go : Dec (b ≡ a) → t ≤ row tb b (pos new b) .late
+      go (yes e) =
+          let o = c .late a (c .agent) (c .unended) in
+          let w = window-on tb good a (c .agent) (pos st a) (c .unended) (pos new a) (pos-goes tb st a t long low) (subst (λ (d : ℕ). pos new d < rows tb d) e live) .1 in
+          rw e (omega arith)
+      go (no n) =
+          let e = accepted-pos-other tb st a t long low b (omega (arith, few tb good)) n in
+          let o = c .late b h (omega arith) in
+          rw e o
 
   new-message : (b i : ℕ) → b < agents tb → i < 32 → Unsent tb new b i ⊎ Sent tb new b i
   new-message b i hb hi = go (ℕ-discrete b a) (ℕ-discrete i (pos st a)) (ℕ-discrete (current tb st a .op) 0x20)

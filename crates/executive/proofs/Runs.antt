@@ -13,7 +13,8 @@ use Rattle.choices.specs.State.{pos, startWords}
 use Rattle.choices.specs.Step.{choiceReply, accepted, Allowed}
 use Rattle.executive.specs.Run.{RunOutcome, ended, runFrom}
 use Rattle.tables.proofs.Good.{few, few-rows}
-use Rattle.choices.proofs.After.{accepted-length, pos-rises}
+use Rattle.choices.proofs.After.{accepted-length}
+use Rattle.choices.proofs.Onward.{pos-rises}
 use Rattle.choices.proofs.Choice.{allowed}
 use Rattle.executive.proofs.Fitting.{Fits}
 use Rattle.executive.proofs.Start.{start-length}

@@ -7,6 +7,7 @@ use Prim.Native.Nat.{ℕ, zero, suc, _+_, _≤_, _<_}
 use lib.ListN.{length}
 use Rattle.tables.specs.Layout.{agents, rows, row, tableWords}
 use Rattle.tables.specs.Table.{goodTable}
+use Rattle.tables.specs.Paths.{GoesOn, Path}
 use Rattle.tables.specs.declared.Row.{Row}
 use Rattle.choices.specs.declared.Best.{Best}
 use Rattle.choices.specs.declared.Best.the-variants.{Nothing, Message}
@@ -15,7 +16,7 @@ use Rattle.choices.specs.Messages.{visible, best}
 use Rattle.choices.specs.Fit.{current, fits}
 use Rattle.choices.specs.Step.{choiceReply, Allowed, stuck, accepted}
 use Rattle.executive.specs.Effects.{heldX}
-use Rattle.executive.specs.Run.{RunOutcome, ended}
+use Rattle.executive.specs.Run.{RunOutcome, ended, runFrom}
 use Rattle.executive.specs.Calls.{startInto, stepInto, runRefusal, runInto}
 
 -- ---- the message that a RECV takes
@@ -86,6 +87,22 @@ StartFits = (tb : List ℕ) → goodTable tb ≡ true → length tb ≡ tableWor
 -- so that a run never tests 9, and a step after a step never gives it
 abbrev pub StepKeepsFit : Type 0
 StepKeepsFit = (tb st : List ℕ) (a t : ℕ) → Sound tb st → choiceReply tb st a t ≡ 0 → Sound tb (accepted tb st a t)
+
+-- ---- where an agent can come to
+
+-- a step takes its agent to a row that its row can go on to, and leaves every other agent where it is
+abbrev pub StepGoesOn : Type 0
+StepGoesOn = (tb st : List ℕ) (a t : ℕ) → Sound tb st → choiceReply tb st a t ≡ 0
+    → GoesOn tb a (pos st a) (pos (accepted tb st a t) a) × ((b : ℕ) → b < agents tb → (b ≡ a → ⊥) → pos (accepted tb st a t) b ≡ pos st b)
+
+-- so a run takes each agent along a path of rows, whatever the choices
+abbrev pub RunIsPath : Type 0
+RunIsPath = (tb st : List ℕ) (n : ℕ) (cs : List ℕ) → Sound tb st → (b : ℕ) → b < agents tb → Path tb b (pos st b) (pos (runFrom tb st n cs .state) b)
+
+-- and never to a row whose late is below that of its row now
+abbrev pub EarlierNeverComes : Type 0
+EarlierNeverComes = (tb st : List ℕ) (n : ℕ) (cs : List ℕ) → Sound tb st → (b : ℕ) → b < agents tb → (i : ℕ) → i < rows tb b
+    → row tb b i .late < current tb st b .late → pos (runFrom tb st n cs .state) b ≡ i → ⊥
 
 -- ---- SEND
 

@@ -2,3 +2,4 @@
 pub mod Reader
 pub mod Calls
 pub mod Laws
+pub mod Cases

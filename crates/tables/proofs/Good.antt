@@ -107,6 +107,24 @@ module _ (tb : List ℕ) where
     agents-past = zero-at _ _ _ (each _ good 5);
   }
 
+-- ---- the unused words, whatever the windows
+
+module _ (tb : List ℕ) (f : TableFacts tb) where
+  -- 0 in the counts, the registers and the rows past the agents
+  pub no-count : (a : ℕ) → agents tb ≤ a → a < 16 → rows tb a ≡ 0
+  no-count a h l = f .counts-past (1 + a) (omega arith) (omega arith)
+
+  pub no-register : (a x : ℕ) → agents tb ≤ a → a < 16 → x < 4 → getD tb (startPlace a + x) 0 ≡ 0
+  no-register a x h l m = f .registers-past (startPlace a + x) (omega arith) (omega arith)
+
+  -- 0 in every row that no agent has: past an agent's count, or past the agents
+  pub no-such-row : (a i w : ℕ) → a < 16 → i < 32 → w < 4 → (a < agents tb → rows tb a ≤ i) → getD tb (rowPlace a i + w) 0 ≡ 0
+  no-such-row a i w l m n past = go (ltb a (agents tb)) refl
+    where
+      go : (b : Bool) → ltb a (agents tb) ≡ b → getD tb (rowPlace a i + w) 0 ≡ 0
+      go true e = let h = ltb-true a (agents tb) e in let r = past h in f .each-agent a h .rows-past (rowPlace a i + w) (omega arith) (omega arith)
+      go false e = let h = ltb-false a (agents tb) e in f .agents-past (rowPlace a i + w) (omega arith) (omega arith)
+
 -- ---- an accepted table
 
 module _ (tb : List ℕ) (good : goodTable tb ≡ true) where
@@ -115,16 +133,6 @@ module _ (tb : List ℕ) (good : goodTable tb ≡ true) where
 
   pub few : agents tb ≤ 16
   few = table-facts tb good .few-agents
-
-  -- 0 in the counts, the registers and the rows past the agents
-  pub no-count : (a : ℕ) → agents tb ≤ a → a < 16 → rows tb a ≡ 0
-  no-count a h l = table-facts tb good .counts-past (1 + a) (omega arith) (omega arith)
-
-  pub no-register : (a x : ℕ) → agents tb ≤ a → a < 16 → x < 4 → getD tb (startPlace a + x) 0 ≡ 0
-  no-register a x h l m = table-facts tb good .registers-past (startPlace a + x) (omega arith) (omega arith)
-
-  pub no-agent : (k : ℕ) → rowPlace (agents tb) 0 ≤ k → k < tableWords → getD tb k 0 ≡ 0
-  no-agent = table-facts tb good .agents-past
 
   module _ (a : ℕ) (h : a < agents tb) where
     agent : AgentFacts tb a
@@ -135,10 +143,6 @@ module _ (tb : List ℕ) (good : goodTable tb ≡ true) where
 
     pub few-rows : rows tb a ≤ 32
     few-rows = agent .rows-few
-
-    -- 0 in the rows past its count
-    pub no-row : (i w : ℕ) → rows tb a ≤ i → i < 32 → w < 4 → getD tb (rowPlace a i + w) 0 ≡ 0
-    no-row i w l m n = agent .rows-past (rowPlace a i + w) (omega arith) (omega arith)
 
     module _ (i : ℕ) (l : i < rows tb a) where
       pub row-passes : rowReplyAt tb a i ≡ 0
@@ -176,14 +180,6 @@ module _ (tb : List ℕ) (good : goodTable tb ≡ true) where
       pub window-on : (j : ℕ) → OneOf j (goesOnTo (row tb a i) i) → j < rows tb a
           → (row tb a i .early ≤ row tb a j .early) × (row tb a i .late ≤ row tb a j .late)
       window-on = climbs-on tb a i (table-climbs tb good a i h l)
-
-  -- 0 in every row that no agent has: past an agent's count, or past the agents
-  pub no-such-row : (a i w : ℕ) → a < 16 → i < 32 → w < 4 → (a < agents tb → rows tb a ≤ i) → getD tb (rowPlace a i + w) 0 ≡ 0
-  no-such-row a i w l m n past = go (ltb a (agents tb)) refl
-    where
-      go : (b : Bool) → ltb a (agents tb) ≡ b → getD tb (rowPlace a i + w) 0 ≡ 0
-      go true e = let h = ltb-true a (agents tb) e in no-row a h i w (past h) m n
-      go false e = let h = ltb-false a (agents tb) e in no-agent (rowPlace a i + w) (omega arith) (omega arith)
 
 -- ---- reply 0 of `check`
 

@@ -7,7 +7,7 @@ use native.Mathlib.Numerals.{add-one}
 use native.Mathlib.Omega.{arith}
 use Rattle.tables.specs.Basics.{first}
 use Rattle.tables.specs.Layout.{agents, rows, startPlace, rowPlace}
-use Rattle.tables.specs.Table.{earlyBefore, lateBefore, rowReplyAt, goodTable}
+use Rattle.tables.specs.Table.{rowReplyAt, goodTable}
 use Rattle.tables.specs.Frames.{Frame}
 use Rattle.tables.proofs.Good.{some, few, some-rows, few-rows, row-passes}
 use Rattle.reading.specs.Reader.{told, inPlace, rowsGood}
@@ -48,34 +48,28 @@ module _ (tb : List ℕ) where
 
     -- ---- each row passes
 
-    abbrev early : ℕ → ℕ → ℕ
-    early = earlyBefore tb
-
-    abbrev late : ℕ → ℕ → ℕ
-    late = lateBefore tb
-
     rows-pass : (c m a i : ℕ) (gs : List Frame) → a < agents tb → i + c ≡ rows tb a
-        → rowsGood m (rows tb a) i (early a i) (late a i) (rowsFrom tb a i c ++ gs) ≡ rowsGood (m + c) (rows tb a) (i + c) (early a (i + c)) (late a (i + c)) gs
-    unfolding rowsFrom earlyBefore lateBefore rowReplyAt
+        → rowsGood m (rows tb a) i (rowsFrom tb a i c ++ gs) ≡ rowsGood (m + c) (rows tb a) (i + c) gs
+    unfolding rowsFrom rowReplyAt
     rows-pass zero m a i gs h e = let p : m + 0 ≡ m = omega arith in let q : i + 0 ≡ i = omega arith in rw (p, q)
     rows-pass (suc c) m a i gs h e =
         let p : m + 1 + c ≡ m + suc c = omega arith in
         let q : suc i + c ≡ i + suc c = omega arith in
-        good-row m (rows tb a) i (early a i) (late a i) a (fourAt tb (rowPlace a i)) (rowsFrom tb a (suc i) c ++ gs) (row-passes tb good a h i (omega arith))
-        ∙ ap (λ (j : ℕ). rowsGood (m + 1) (rows tb a) j (early a (suc i)) (late a (suc i)) (rowsFrom tb a (suc i) c ++ gs)) (add-one i)
+        good-row m (rows tb a) i a (fourAt tb (rowPlace a i)) (rowsFrom tb a (suc i) c ++ gs) (row-passes tb good a h i (omega arith))
+        ∙ ap (λ (j : ℕ). rowsGood (m + 1) (rows tb a) j (rowsFrom tb a (suc i) c ++ gs)) (add-one i)
         ∙ rows-pass c (m + 1) a (suc i) gs h (omega arith)
-        ∙ (λ k. rowsGood (p k) (rows tb a) (q k) (early a (q k)) (late a (q k)) gs)
+        ∙ (λ k. rowsGood (p k) (rows tb a) (q k) gs)
 
-    agents-pass : (n m a c i e l : ℕ) → a + n ≡ agents tb → rowsGood m c i e l (agentsFrom tb a n) ≡ told 0 0
-    unfolding agentsFrom earlyBefore lateBefore
-    agents-pass zero m a c i e l all = good-end m c i e l []
-    agents-pass (suc n) m a c i e l all =
+    agents-pass : (n m a c i : ℕ) → a + n ≡ agents tb → rowsGood m c i (agentsFrom tb a n) ≡ told 0 0
+    unfolding agentsFrom
+    agents-pass zero m a c i all = good-end m c i []
+    agents-pass (suc n) m a c i all =
         let gs = agentsFrom tb (suc a) n in
         let k = rows tb a in
-        good-open m c i e l a (fourAt tb (startPlace a)) (rowsFrom tb a 0 k ++ gs)
-        ∙ ap (λ (j : ℕ). rowsGood (m + 1) j 0 0 0 (rowsFrom tb a 0 k ++ gs)) (rows-counted tb k a 0 (suc a) n)
+        good-open m c i a (fourAt tb (startPlace a)) (rowsFrom tb a 0 k ++ gs)
+        ∙ ap (λ (j : ℕ). rowsGood (m + 1) j 0 (rowsFrom tb a 0 k ++ gs)) (rows-counted tb k a 0 (suc a) n)
         ∙ rows-pass k (m + 1) a 0 gs (omega arith) (omega arith)
-        ∙ agents-pass n (m + 1 + k) (suc a) k (0 + k) (early a (0 + k)) (late a (0 + k)) (omega arith)
+        ∙ agents-pass n (m + 1 + k) (suc a) k (0 + k) (omega arith)
 
     -- ---- so the reader accepts them
 
@@ -83,6 +77,6 @@ module _ (tb : List ℕ) where
     unfolding framesIn
     frames-placed = agents-placed (agents tb) 1 0 0 (omega arith) (λ z. absurd (omega arith))
 
-    pub frames-pass : rowsGood 1 0 0 0 0 (framesIn tb) ≡ told 0 0
+    pub frames-pass : rowsGood 1 0 0 (framesIn tb) ≡ told 0 0
     unfolding framesIn
-    frames-pass = agents-pass (agents tb) 1 0 0 0 0 0 (omega arith)
+    frames-pass = agents-pass (agents tb) 1 0 0 0 (omega arith)

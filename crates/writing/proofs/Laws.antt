@@ -15,14 +15,15 @@ use Rattle.tables.specs.Frames.{Frame, framesOf}
 use Rattle.tables.specs.Table.{goodTable}
 use Rattle.tables.specs.Calls.{checkReply}
 use Rattle.tables.proofs.Newlines.{joined-lines}
-use Rattle.tables.proofs.Good.{few, checked-good}
+use Rattle.tables.proofs.Good.{few, table-facts, table-climbs, checked-good}
 use Rattle.tables.proofs.Small.{small-nil, small-cons}
-use Rattle.reading.specs.Reader.{told, rowsGood, framesReply, tableOf}
+use Rattle.reading.specs.Reader.{told, inPlace, rowsGood, tableClimbs, framesReply, tableOf}
 use Rattle.reading.specs.declared.Told.{Told}
 use Rattle.reading.specs.Calls.{ReadOutcome, readOutcome, readInto}
 use Rattle.reading.proofs.Accepted.{placed-first}
-use Rattle.reading.proofs.Outcomes.{in-places, accepted-placed, accepted-read, all-good, blank, blank-length}
-use Rattle.reading.proofs.ReadGood.{frames-four, table-length, read-good}
+use Rattle.reading.proofs.Outcomes.{accepted-placed, accepted-read, rows-passed, read-accepted, blank, blank-length}
+use Rattle.reading.proofs.Climbs.{climbing-told}
+use Rattle.reading.proofs.ReadGood.{frames-four, table-length, rows-facts}
 use Rattle.reading.proofs.ReadSmall.{words-small}
 use Rattle.reading.proofs.Laws.{read-is-checked}
 use Rattle.writing.specs.Writer.{fourAt, linesOf, rowsFrom, agentsFrom, framesIn, textOf}
@@ -56,24 +57,26 @@ module _ (tb : List ℕ) (long : length tb ≡ tableWords) (small : Small tb) (g
   unfolding textOf framesIn
   frames-read = frames-back (framesIn tb) (agents-plain (agents tb) 0 (let f = few tb good in omega arith))
 
-  reply-placed : framesReply (framesOf (textOf tb)) .reply ≡ 0
-  reply-placed =
-      ap (λ (fs : List Frame). framesReply fs .reply) frames-read
-      ∙ ap (λ (t : Told). t .reply) (in-places (framesIn tb) (ap (λ (t : Told). t .reply) (frames-placed tb good)) ∙ frames-pass tb good)
+  placed : inPlace 1 0 0 (framesOf (textOf tb)) .reply ≡ 0
+  placed = ap (λ (fs : List Frame). inPlace 1 0 0 fs .reply) frames-read ∙ ap (λ (t : Told). t .reply) (frames-placed tb good)
+
+  passed : rowsGood 1 0 0 (framesOf (textOf tb)) .reply ≡ 0
+  passed = ap (λ (fs : List Frame). rowsGood 1 0 0 fs .reply) frames-read ∙ ap (λ (t : Told). t .reply) (frames-pass tb good)
 
   words-read : tableOf (framesOf (textOf tb)) ≡ tb
   unfolding framesOf
   words-read =
       let fs = framesOf (textOf tb) in
-      let back : framesIn (tableOf fs) ≡ fs = table-frames fs (frames-four (lines (textOf tb))) (accepted-placed fs reply-placed) in
-      same-words (tableOf fs) tb (table-length fs) long (read-good (textOf tb) reply-placed) good (back ∙ frames-read)
+      let back : framesIn (tableOf fs) ≡ fs = table-frames fs (frames-four (lines (textOf tb))) placed in
+      same-words (tableOf fs) tb (table-length fs) long (rows-facts (textOf tb) placed passed) (table-facts tb good) (back ∙ frames-read)
+
+  -- so what is told of its windows is told of the table's
+  reply-read : told 0 0 ≡ framesReply (framesOf (textOf tb))
+  reply-read =
+      sym (rows-passed (framesOf (textOf tb)) placed passed ∙ ap tableClimbs words-read ∙ climbing-told tb (table-climbs tb good))
 
   text-read : (lent : List ℕ) → tableWords ≤ length lent → readInto (textOf tb) lent ≡ readOutcome (told 0 0) (tb ++ drop tableWords lent)
-  text-read lent room =
-      let fs = framesOf (textOf tb) in
-      sym
-      (all-good (textOf tb) lent room (accepted-placed fs reply-placed) (told 0 0)
-      (sym (frames-pass tb good) ∙ ap (λ (gs : List Frame). rowsGood 1 0 0 0 0 gs) (sym frames-read)) refl tb (sym words-read))
+  text-read lent room = sym (read-accepted (textOf tb) lent room (told 0 0) reply-read refl tb (sym words-read))
 
 pub written-is-read : WrittenIsRead
 written-is-read tb text lent ok small room long =

@@ -1,4 +1,4 @@
--- A good table's words are told by the frames in them. Assumes nothing.
+-- A table's words are told by the frames in them, whatever its windows. Assumes nothing.
 use mathlib.Core.Path.{_≡_, refl, sym, ap, _∙_}
 use mathlib.Core.Bool.{Bool, true, false}
 use mathlib.Core.Logic.{inl, inr}
@@ -10,10 +10,9 @@ use lib.ListN.{length, getD}
 use lib.Seq.{ext-getD}
 use borrow.Author.Tests.{ltb-true, ltb-false, eqb-true, eqb-false}
 use Rattle.tables.specs.Layout.{agents, rows, startPlace, rowPlace, tableWords}
-use Rattle.tables.specs.Table.{goodTable}
 use Rattle.tables.specs.Frames.{Frame, opens, gives, ends, malformed}
 use Rattle.tables.proofs.WordPlaces.{Place, place-of}
-use Rattle.tables.proofs.Good.{no-count, no-register, no-such-row}
+use Rattle.tables.proofs.Good.{TableFacts, no-count, no-register, no-such-row}
 use Rattle.reading.specs.Reader.{rowsNext}
 use Rattle.writing.specs.Writer.{fourAt, rowsFrom, agentsFrom, framesIn}
 use Rattle.writing.proofs.Counts.{agentsNext, rows-counted, agents-counted}
@@ -80,7 +79,7 @@ module _ (tb other : List ℕ) where
 -- ---- word by word
 
 module _ (tb other : List ℕ) (long : length tb ≡ tableWords) (long′ : length other ≡ tableWords)
-    (good : goodTable tb ≡ true) (good′ : goodTable other ≡ true) (e : framesIn tb ≡ framesIn other) where
+    (facts : TableFacts tb) (facts′ : TableFacts other) (e : framesIn tb ≡ framesIn other) where
   agents-same : agents tb ≡ agents other
   unfolding framesIn
   agents-same = sym (agents-counted tb (agents tb) 0) ∙ ap agentsNext e ∙ agents-counted other (agents other) 0
@@ -94,7 +93,7 @@ module _ (tb other : List ℕ) (long : length tb ≡ tableWords) (long′ : leng
     where
       go : (t : Bool) → ltb a (agents tb) ≡ t → rows tb a ≡ rows other a
       go true q = alike a (ltb-true _ _ q) .count
-      go false q = let n = ltb-false _ _ q in let s = agents-same in no-count tb good a n h ∙ sym (no-count other good′ a (omega arith) h)
+      go false q = let n = ltb-false _ _ q in let s = agents-same in no-count tb facts a n h ∙ sym (no-count other facts′ a (omega arith) h)
 
   register-same : (a w k : ℕ) → a < 16 → w < 4 → k ≡ startPlace a + w → getD tb k 0 ≡ getD other k 0
   register-same a w k h l p = go (ltb a (agents tb)) refl
@@ -104,7 +103,7 @@ module _ (tb other : List ℕ) (long : length tb ≡ tableWords) (long′ : leng
       go false q =
           let n = ltb-false _ _ q in
           let s = agents-same in
-          rw p (no-register tb good a w n h l ∙ sym (no-register other good′ a w (omega arith) h l))
+          rw p (no-register tb facts a w n h l ∙ sym (no-register other facts′ a w (omega arith) h l))
 
   row-same : (a i w k : ℕ) → a < 16 → i < 32 → w < 4 → k ≡ rowPlace a i + w → getD tb k 0 ≡ getD other k 0
   row-same a i w k h m l p = go (ltb a (agents tb)) refl (ltb i (rows tb a)) refl
@@ -113,7 +112,7 @@ module _ (tb other : List ℕ) (long : length tb ≡ tableWords) (long′ : leng
       none f =
           let s = agents-same in
           let c = count-same a h in
-          rw p (no-such-row tb good a i w h m l f ∙ sym (no-such-row other good′ a i w h m l (λ x. let y = f (omega arith) in omega arith)))
+          rw p (no-such-row tb facts a i w h m l f ∙ sym (no-such-row other facts′ a i w h m l (λ x. let y = f (omega arith) in omega arith)))
 
       go : (t : Bool) → ltb a (agents tb) ≡ t → (u : Bool) → ltb i (rows tb a) ≡ u → getD tb k 0 ≡ getD other k 0
       go true q true r = four-same tb other (rowPlace a i) (alike a (ltb-true _ _ q) .words i (ltb-true _ _ r)) w k l p

@@ -6,8 +6,8 @@ use lib.Dec.{T, eqb}
 use lib.ListN.{length, take, replicate}
 use Rattle.tables.specs.Basics.{first, every, allBelow, allZero, zeroFrom}
 use Rattle.tables.specs.Layout.{rowOf}
-use Rattle.tables.specs.Rows.{rowReply, wellFormed, fieldsFit, namesOf, within}
-use Rattle.tables.specs.Table.{goodTable, goodAgent, goodRows, rowReplyAt, earlyBefore, lateBefore}
+use Rattle.tables.specs.Rows.{rowReply, wellFormed, fieldsFit, namesOf, within, goesOnTo, notAbove}
+use Rattle.tables.specs.Table.{goodTable, goodAgent, goodRows, rowReplyAt, climbsTo, climbs}
 use Rattle.tables.specs.Lines.{newline, endLine, same}
 use Rattle.tables.specs.Cases.{exampleTable}
 use Rattle.tables.specs.Calls.{checkReply}
@@ -30,7 +30,7 @@ setsRegister =
 
 -- the write of this table into a buffer of n bytes, each 1, replies r with the length m, and leaves these bytes
 leaves : (table : List ℕ) (n r m : ℕ) → List ℕ → Bool
-unfolding first every same checkReply goodTable goodAgent goodRows rowReplyAt earlyBefore lateBefore rowReply wellFormed fieldsFit namesOf within rowOf zeroFrom allZero allBelow hexChar hexDigits hexWords rowsFrom agentsFrom framesIn frameLine lineOf linesOf textOf bytesInto writeInto
+unfolding first every same checkReply goodTable goodAgent goodRows rowReplyAt climbs climbsTo rowReply goesOnTo notAbove wellFormed fieldsFit namesOf within rowOf zeroFrom allZero allBelow hexChar hexDigits hexWords rowsFrom agentsFrom framesIn frameLine lineOf linesOf textOf bytesInto writeInto
 leaves tb n r m bs =
     let w = writeInto tb (replicate n 1) in
     eqb (w .wrote .reply) r && eqb (w .wrote .length) m && same (w .text) bs
@@ -61,5 +61,5 @@ rowsOfSet (suc n) = 0 ∷ 0 ∷ 0 ∷ 1 ∷ rowsOfSet n
 
 -- 16 agents of 32 rows have the longest text
 longest : T (let tb = (16 ∷ replicate 16 32) ++ (replicate 64 0 ++ rowsOfSet 512) in eqb (checkReply tb) 0 && eqb (textLength tb) 19539)
-unfolding first every checkReply goodTable goodAgent goodRows rowReplyAt earlyBefore lateBefore rowReply wellFormed fieldsFit namesOf within rowOf zeroFrom allZero allBelow rowTotal textLength rowsOfSet
+unfolding first every checkReply goodTable goodAgent goodRows rowReplyAt climbs climbsTo rowReply goesOnTo notAbove wellFormed fieldsFit namesOf within rowOf zeroFrom allZero allBelow rowTotal textLength rowsOfSet
 longest = tt
