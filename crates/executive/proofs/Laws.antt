@@ -7,7 +7,7 @@ use native.Mathlib.Omega.{arith}
 use Rattle.tables.specs.Paths.{GoesOn, Path, here, on}
 use Rattle.tables.proofs.Good.{few, few-rows}
 use Rattle.tables.proofs.Paths.{earlier-is-past}
-use Rattle.executive.specs.Laws.{Sound, BestIsTaken, NoneIsTaken, NextDepends, AcceptedExactly, StuckExactly, NeverStuck, StartFits, StepKeepsFit, StepGoesOn, RunIsPath, EarlierNeverComes, SendIsSent, RunIsSteps, RunCounts}
+use Rattle.executive.specs.Laws.{BestIsTaken, NoneIsTaken, NextDepends, AcceptedExactly, StuckExactly, NeverStuck, StartFits, StepKeepsFit, StepGoesOn, RunIsPath, EarlierNeverComes, SendIsSent, RunIsSteps, RunCounts}
 use Rattle.choices.specs.State.{pos}
 use Rattle.choices.specs.Step.{choiceReply, accepted}
 use Rattle.executive.specs.Run.{RunOutcome, runFrom}

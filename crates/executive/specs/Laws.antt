@@ -11,7 +11,7 @@ use Rattle.tables.specs.Paths.{GoesOn, Path}
 use Rattle.tables.specs.declared.Row.{Row}
 use Rattle.choices.specs.declared.Best.{Best}
 use Rattle.choices.specs.declared.Best.the-variants.{Nothing, Message}
-use Rattle.choices.specs.State.{clock, pos, mark, value, Pool, pool, agentAt, startWords, stateWords}
+use Rattle.choices.specs.State.{pos, mark, value, Pool, pool, agentAt, startWords, stateWords}
 use Rattle.choices.specs.Messages.{visible, best}
 use Rattle.choices.specs.Fit.{current, fits}
 use Rattle.choices.specs.Step.{choiceReply, Allowed, stuck, accepted}

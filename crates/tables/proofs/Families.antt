@@ -7,7 +7,7 @@ use Prim.Native.Nat.{ℕ, zero, suc, _≤_}
 use native.Mathlib.Omega.{arith}
 use lib.Dec.{T, leb, eqb}
 use lib.ListN.{getD}
-use borrow.Author.Tests.{leb-true, eqb-true, eqb-false, ne-eqb}
+use borrow.Author.Tests.{leb-true, eqb-true, ne-eqb}
 use Rattle.tables.proofs.Passed.{and-1, and-2, each}
 use Rattle.tables.specs.Family.{familyOf}
 use Rattle.tables.specs.Rows.{Names, namesOf, within, fieldsFit, wellFormed}

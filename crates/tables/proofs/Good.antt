@@ -7,7 +7,7 @@ use Prim.Native.Nat.{ℕ, _+_, _≤_, _<_}
 use native.Mathlib.Omega.{arith}
 use lib.Dec.{eqb, ltb}
 use lib.ListN.{getD, length, take}
-use borrow.Author.Tests.{leb-true, le-leb, eqb-true, eqb-false, eq-eqb, ltb-true, ltb-false, le-ltb, not-false}
+use borrow.Author.Tests.{leb-true, le-leb, eqb-true, ltb-true, ltb-false, le-ltb, not-false}
 use Rattle.tables.proofs.Passed.{and-1, and-2, each, every-go, every-none, below, all-below, passed, first-skip, first-none}
 use Rattle.tables.proofs.Tests.{not-t}
 use Rattle.tables.proofs.Zeros.{zero-at, zero-all}

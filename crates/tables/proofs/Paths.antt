@@ -6,18 +6,13 @@ use Prim.Native.Nat.{ℕ, _≤_, _<_}
 use native.Mathlib.Omega.{arith}
 use Rattle.tables.specs.Layout.{agents, rows, row}
 use Rattle.tables.specs.Table.{goodTable}
-use Rattle.tables.specs.Paths.{GoesOn, Path, here, on, WindowsClimb, EarlierIsPast}
+use Rattle.tables.specs.Paths.{Path, here, on, WindowsClimb, EarlierIsPast}
 use Rattle.tables.proofs.Onward.{rises}
 use Rattle.tables.proofs.Good.{window-on}
 
 pub path-rises : {tb : List ℕ} {a i k : ℕ} → Path tb a i k → i ≤ k
 path-rises here = omega arith
 path-rises (on {i} {j} g p) = let l = path-rises p in omega (arith, rises _ i j g)
-
--- a path and one row more
-pub then-on : {tb : List ℕ} {a i j k : ℕ} → Path tb a i j → GoesOn tb a j k → Path tb a i k
-then-on here g = on g here
-then-on (on h p) g = on h (then-on p g)
 
 module _ (tb : List ℕ) (good : goodTable tb ≡ true) (a : ℕ) (h : a < agents tb) where
   climb : {i k : ℕ} → Path tb a i k → k < rows tb a → (row tb a i .early ≤ row tb a k .early) × (row tb a i .late ≤ row tb a k .late)

@@ -1,7 +1,6 @@
 -- `rows_climb` meets its contract. The loop holds what is left to be told: of the rows from row i on. Assumes nothing.
 use borrow.Author.Needs.{needs}
 use Prim.Native.Nat.{_≤_, _-_}
-use native.Mathlib.Omega.{arith}
 use Rattle.tables.proofs.Tests.{refused, granted}
 use Rattle.reading.proofs.Climbs.{RowsLeft, first-row, next-row, goes-back, no-row}
 use Rattle.reading.proofs.climbing.rows_climb.Statement.{statement}

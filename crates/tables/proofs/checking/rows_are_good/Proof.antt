@@ -3,7 +3,7 @@ use borrow.Author.Needs.{needs}
 use mathlib.Core.Path.{_≡_, sym, _∙_}
 use mathlib.Core.Bool.{true}
 use native.Mathlib.Omega.{arith}
-use Prim.Native.Nat.{_≤_, _<_, _-_}
+use Prim.Native.Nat.{_≤_, _-_}
 use Rattle.tables.specs.Basics.{allBelow}
 use Rattle.tables.specs.Layout.{rows}
 use Rattle.tables.proofs.Tests.{refused, granted}

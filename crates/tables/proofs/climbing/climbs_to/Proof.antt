@@ -1,7 +1,5 @@
 -- `climbs_to` meets its contract: the end first, then early and late in their order. Assumes nothing.
 use borrow.Author.Needs.{needs}
-use mathlib.Core.Path.{_≡_, sym, _∙_}
-use Prim.Native.Nat.{_≤_, _<_}
 use native.Mathlib.Omega.{arith}
 use Rattle.tables.proofs.Onward.{to-end, early-back, by-late}
 use Rattle.tables.proofs.climbing.climbs_to.Statement.{statement}
