@@ -1,10 +1,9 @@
 -- What is read after an accepted step: the clock, the agents, the marks and values, and that every other word is as before. Assumes nothing.
 use mathlib.Core.Path.{_≡_, refl, ap, _∙_}
 use mathlib.Core.Logic.{_≢_}
-use mathlib.Core.Bool.{Bool, true, false, _&&_, cond}
+use mathlib.Core.Bool.{Bool, true, false, cond}
 use mathlib.Core.List.{List}
 use Prim.Native.Nat.{ℕ, _+_, _%_, _^_, _<_}
-use native.Mathlib.Decide.{ℕ-discrete}
 use native.Mathlib.Omega.{arith}
 use lib.Dec.{eqb}
 use lib.Count.{onesIn, trailingZeros}
@@ -20,6 +19,7 @@ use Rattle.choices.specs.Messages.{best}
 use Rattle.choices.specs.Effect.{after, receive, goTo, put}
 use Rattle.choices.specs.Fit.{current}
 use Rattle.choices.specs.Step.{accepted, withAgent, withSent}
+use Rattle.tables.proofs.Tests.{either}
 use Rattle.tables.proofs.Stored.{getD-sets-other}
 use Rattle.choices.proofs.Lists.{part-same, part-sets}
 
@@ -33,10 +33,6 @@ Carries W (Message l b i v) = W v
 -- a row only puts a value into a register, one of those of which W is shown here, or goes on; where to is `after-goes` in Onward
 module _ (P : Agent → Type 0) (W : ℕ → Type 0) (r : Row) (s : Agent) (puts : (x v : ℕ) → W v → P (put x v s)) (goes : (p : ℕ) → P (goTo p s))
     (k : W (r .k)) (remainder : (n : ℕ) → W (n % 2 ^ 32)) (ones : (y : ℕ) → W (onesIn 32 y)) (low : (y : ℕ) → W (trailingZeros 32 y)) where
-  either : (b : Bool) (x y : Agent) → P x → P y → P (cond b x y)
-  either true x y h k = h
-  either false x y h k = k
-
   receives : (m : Best) → Carries W m → P (receive r m s)
   unfolding receive
   receives Nothing c = goes (s .pos + 1 + r .n)
@@ -44,18 +40,16 @@ module _ (P : Agent → Type 0) (W : ℕ → Type 0) (r : Row) (s : Agent) (puts
 
   pub after-made : (m : Best) → Carries W m → P (after r m s)
   unfolding after
-  after-made m c = search (either, puts, goes, receives, k, remainder, ones, low, c) depth 14
+  after-made m c = search (either P, puts, goes, receives, k, remainder, ones, low, c) depth 14
 
--- whatever the value
-after-is : (P : Agent → Type 0) (r : Row) (s : Agent) → ((x v : ℕ) → P (put x v s)) → ((p : ℕ) → P (goTo p s)) → (m : Best) → P (after r m s)
-after-is P r s puts goes m = after-made P (λ v. Unit) r s (λ x v t. puts x v) goes tt (λ n. tt) (λ y. tt) (λ y. tt) m (any m)
+pub after-four : (r : Row) (m : Best) (s : Agent) → length (s .regs) ≡ 4 → length (after r m s .regs) ≡ 4
+after-four r m s four =
+    after-made (λ g. length (g .regs) ≡ 4) (λ v. Unit) r s (λ x v t. length-set (s .regs) x v ∙ four) (λ p. four) tt (λ n. tt) (λ y. tt) (λ y. tt) m (any m)
   where
+    -- whatever the value
     any : (m : Best) → Carries (λ v. Unit) m
     any Nothing = tt
     any (Message l b i v) = tt
-
-pub after-four : (r : Row) (m : Best) (s : Agent) → length (s .regs) ≡ 4 → length (after r m s .regs) ≡ 4
-after-four r m s four = after-is (λ g. length (g .regs) ≡ 4) r s (λ x v. length-set (s .regs) x v ∙ four) (λ p. four) m
 
 -- ---- the words after a step
 
@@ -132,21 +126,6 @@ module _ (st : List ℕ) (a : ℕ) (r : Row) (s : Agent) where
 -- the state of agent a after a step of its own
 abbrev pub next : (tb st : List ℕ) (a : ℕ) → Agent
 next tb st a = after (current tb st a) (best tb (pool st) (current tb st a)) (agentAt st a)
-
--- a step of agent a sends the message of row i of agent b
-abbrev pub sendsAt : (tb st : List ℕ) (a b i : ℕ) → Bool
-sendsAt tb st a b i = eqb (current tb st a .op) 0x20 && eqb b a && eqb i (pos st a)
-
--- a word that is new at a SEND's own place, and else as it was
-by-place : (o b a i p x new old : ℕ) → (o ≡ 0x20 → b ≡ a → i ≡ p → x ≡ new) → (o ≢ 0x20 → x ≡ old) → (((b ≡ a) × (i ≡ p) → ⊥) → x ≡ old)
-    → x ≡ cond (eqb o 0x20 && eqb b a && eqb i p) new old
-by-place o b a i p x new old here unsent away = go (ℕ-discrete o 0x20) (ℕ-discrete b a) (ℕ-discrete i p)
-  where
-    go : Dec (o ≡ 0x20) → Dec (b ≡ a) → Dec (i ≡ p) → x ≡ cond (eqb o 0x20 && eqb b a && eqb i p) new old
-    go (no n) e f = rw (ne-eqb o 0x20 n) (unsent n)
-    go (yes d) (no n) f = rw (eq-eqb o 0x20 d, ne-eqb b a n) (away (λ q. n (q .0)))
-    go (yes d) (yes e) (no n) = rw (eq-eqb o 0x20 d, eq-eqb b a e, ne-eqb i p n) (away (λ q. n (q .1)))
-    go (yes d) (yes e) (yes f) = rw (eq-eqb o 0x20 d, eq-eqb b a e, eq-eqb i p f) (here d e f)
 
 module _ (tb st : List ℕ) (a t : ℕ) (long : length st ≡ 1105) (low : a < 16) where
   pub agent-four : length (agentAt st a .regs) ≡ 4
@@ -249,14 +228,3 @@ module _ (tb st : List ℕ) (a t : ℕ) (long : length st ≡ 1105) (low : a < 1
         value-unsent =
             ap (λ (l : List ℕ). value l b i) (unsent put-in a (current tb st a) (agentAt st a) other)
             ∙ with-other st a t (next tb st a) (valuePlace b i) (λ e. omega arith) (λ e. omega arith) (λ k h e. omega (arith, next-four))
-
-      -- the same in one equation each
-      pub mark-after : mark (accepted tb st a t) b i ≡ cond (sendsAt tb st a b i) 1 (mark st b i)
-      mark-after =
-          by-place (current tb st a .op) b a i (pos st a) (mark (accepted tb st a t) b i) 1 (mark st b i)
-          (λ o d e. rw (d, e) (sent-own-mark o)) mark-unsent mark-away
-
-      pub value-after : value (accepted tb st a t) b i ≡ cond (sendsAt tb st a b i) (getD (agentAt st a .regs) (current tb st a .x) 0) (value st b i)
-      value-after =
-          by-place (current tb st a .op) b a i (pos st a) (value (accepted tb st a t) b i) (getD (agentAt st a .regs) (current tb st a .x) 0) (value st b i)
-          (λ o d e. rw (d, e) (sent-own-value o)) value-unsent value-away

@@ -10,7 +10,7 @@ use lib.Dec.{leb}
 use borrow.Author.Tests.{le-leb, lt-leb, le-ltb, lt-ltb}
 use Rattle.tables.proofs.Tests.{and-yes}
 use Rattle.tables.specs.Basics.{allBelow}
-use Rattle.tables.specs.Layout.{agents, rows, row}
+use Rattle.tables.specs.Layout.{agents, rows}
 use Rattle.tables.specs.Table.{goodTable}
 use Rattle.tables.proofs.Good.{few, few-rows, table-facts, no-count}
 use Rattle.choices.specs.State.{clock, pos}

@@ -1,18 +1,19 @@
 -- Where a row goes on: at one of the rows that it can go on to, whatever its agent holds and whatever message it takes. Assumes nothing.
-use mathlib.Core.Path.{_≡_, refl, subst}
+use mathlib.Core.Path.{_≡_, refl, sym, ap, subst, _∙_}
 use mathlib.Core.Logic.{inl, inr}
-use mathlib.Core.Bool.{Bool, true, false, cond}
 use mathlib.Core.List.{List, [], _∷_}
 use Prim.Native.Nat.{ℕ, _+_, _≤_, _<_}
+use native.Mathlib.Omega.{arith}
 use native.Mathlib.Decide.{ℕ-discrete}
 use lib.Dec.{eqb}
-use lib.ListN.{length, getD}
+use lib.ListN.{length, getD, replicate, getD-replicate}
 use borrow.Author.Tests.{ne-eqb}
 use Rattle.tables.specs.Basics.{OneOf}
 use Rattle.tables.specs.Rows.{goesOnTo}
-use Rattle.tables.specs.Paths.{GoesOn}
 use Rattle.tables.specs.declared.Row.{Row}
-use Rattle.tables.proofs.Onward.{rises}
+use Rattle.tables.proofs.Tests.{either}
+use Rattle.tables.proofs.Families.{Plain}
+use Rattle.tables.proofs.Onward.{Onward, both, far, near, onward, rises}
 use Rattle.choices.specs.declared.Agent.{Agent}
 use Rattle.choices.specs.declared.Best.{Best}
 use Rattle.choices.specs.declared.Best.the-variants.{Nothing, Message}
@@ -24,67 +25,72 @@ use Rattle.choices.specs.Step.{accepted}
 use Rattle.choices.proofs.After.{accepted-pos}
 use Rattle.choices.proofs.Effects.{after-skip, after-stay, after-jump, after-receive}
 
-either : (q : ℕ) (b : Bool) (x y : Agent) → x .pos ≡ q → y .pos ≡ q → cond b x y .pos ≡ q
-either q true x y h k = h
-either q false x y h k = k
-
 module _ (r : Row) (m : Best) (s : Agent) where
-  abbrev near : ℕ
-  near = s .pos + 1
+  abbrev next : ℕ
+  next = s .pos + 1
 
   -- a row that is no SKIP, JUMP or RECV goes on at p+1
-  goes-near : (r .op ≡ 0x10 → ⊥) → (r .op ≡ 0x11 → ⊥) → (r .op ≡ 0x30 → ⊥) → after r m s .pos ≡ near
+  goes-near : Plain (r .op) → after r m s .pos ≡ next
   unfolding after
-  goes-near k j v =
-      rw (ne-eqb (r .op) 0x10 k, ne-eqb (r .op) 0x11 j, ne-eqb (r .op) 0x30 v)
-      (either near (eqb (r .op) 0x00) _ _ refl
-      (either near (eqb (r .op) 0x01) _ _ refl
-      (either near (eqb (r .op) 0x02) _ _ refl
-      (either near (eqb (r .op) 0x03) _ _ refl
-      (either near (eqb (r .op) 0x04) _ _ refl refl)))))
+  goes-near p =
+      rw (ne-eqb (r .op) 0x10 (p .0), ne-eqb (r .op) 0x11 (p .1), ne-eqb (r .op) 0x30 (p .2))
+      (either at (eqb (r .op) 0x00) _ _ refl
+      (either at (eqb (r .op) 0x01) _ _ refl
+      (either at (eqb (r .op) 0x02) _ _ refl
+      (either at (eqb (r .op) 0x03) _ _ refl
+      (either at (eqb (r .op) 0x04) _ _ refl refl)))))
+    where
+      at : Agent → Type 0
+      at g = g .pos ≡ next
 
-  -- the rows of each kind
-  skip-rows : r .op ≡ 0x10 → (near ∷ (near + r .n) ∷ []) ≡ goesOnTo r (s .pos)
-  unfolding goesOnTo
-  skip-rows e = rw e
+  skips : r .op ≡ 0x10 → Dec (getD (s .regs) (r .x) 0 ≡ 0) → OneOf (after r m s .pos) (next ∷ (next + r .n) ∷ [])
+  skips k (yes z) = inr (inl (ap (λ (g : Agent). g .pos) (sym (after-skip r m s k z))))
+  skips k (no z) = inl (ap (λ (g : Agent). g .pos) (sym (after-stay r m s k z)))
 
-  jump-rows : r .op ≡ 0x11 → ((near + r .n) ∷ []) ≡ goesOnTo r (s .pos)
-  unfolding goesOnTo
-  jump-rows e = rw e
-
-  recv-rows : r .op ≡ 0x30 → (near ∷ (near + r .n) ∷ []) ≡ goesOnTo r (s .pos)
-  unfolding goesOnTo
-  recv-rows e = rw e
-
-  near-rows : (r .op ≡ 0x10 → ⊥) → (r .op ≡ 0x11 → ⊥) → (r .op ≡ 0x30 → ⊥) → (near ∷ []) ≡ goesOnTo r (s .pos)
-  unfolding goesOnTo
-  near-rows k j v = rw (ne-eqb (r .op) 0x10 k, ne-eqb (r .op) 0x11 j, ne-eqb (r .op) 0x30 v)
-
-  by-rows : (g : Agent) (js : List ℕ) → g ≡ after r m s → js ≡ goesOnTo r (s .pos) → OneOf (g .pos) js → OneOf (after r m s .pos) (goesOnTo r (s .pos))
-  by-rows g js e f one = subst (λ (h : Agent). OneOf (h .pos) (goesOnTo r (s .pos))) e (subst (OneOf (g .pos)) f one)
-
-  received : (b : Best) → OneOf (receive r b s .pos) (near ∷ (near + r .n) ∷ [])
+  received : (b : Best) → OneOf (receive r b s .pos) (next ∷ (next + r .n) ∷ [])
   unfolding receive
   received Nothing = inr (inl refl)
   received (Message l b i v) = inl refl
 
   pub after-goes : OneOf (after r m s .pos) (goesOnTo r (s .pos))
-  after-goes = go (ℕ-discrete (r .op) 0x10) (ℕ-discrete (r .op) 0x11) (ℕ-discrete (r .op) 0x30)
+  after-goes = go (goesOnTo r (s .pos)) (onward r (s .pos))
     where
-      skips : r .op ≡ 0x10 → Dec (getD (s .regs) (r .x) 0 ≡ 0) → OneOf (after r m s .pos) (goesOnTo r (s .pos))
-      skips k (yes z) = by-rows _ _ (after-skip r m s k z) (skip-rows k) (inr (inl refl))
-      skips k (no z) = by-rows _ _ (after-stay r m s k z) (skip-rows k) (inl refl)
+      go : (js : List ℕ) → Onward r (s .pos) js → OneOf (after r m s .pos) js
+      go js (both (inl k)) = skips k (ℕ-discrete (getD (s .regs) (r .x) 0) 0)
+      go js (both (inr v)) = subst (λ (g : Agent). OneOf (g .pos) js) (after-receive r m s v) (received m)
+      go js (far j) = inl (ap (λ (g : Agent). g .pos) (sym (after-jump r m s j)))
+      go js (near o) = inl (goes-near o)
 
-      go : Dec (r .op ≡ 0x10) → Dec (r .op ≡ 0x11) → Dec (r .op ≡ 0x30) → OneOf (after r m s .pos) (goesOnTo r (s .pos))
-      go (yes k) j v = skips k (ℕ-discrete (getD (s .regs) (r .x) 0) 0)
-      go (no k) (yes j) v = by-rows _ _ (after-jump r m s j) (jump-rows j) (inl refl)
-      go (no k) (no j) (yes v) = by-rows _ _ (after-receive r m s v) (recv-rows v) (received m)
-      go (no k) (no j) (no v) = by-rows _ _ refl (near-rows k j v) (inl (goes-near k j v))
+-- ---- and each of them is come to by some agent
+
+-- a way that row r takes an agent at p, to j
+abbrev Way : Row → (p j : ℕ) → Type 0
+Way r p j = (s : Agent) × (m : Best) × (s .pos ≡ p) × (after r m s .pos ≡ j)
+
+pub way-taken : (r : Row) (p j : ℕ) → OneOf j (goesOnTo r p) → Way r p j
+unfolding receive
+way-taken r p j one = go (goesOnTo r p) (onward r p) one
+  where
+    -- an agent at p whose registers hold v
+    holding : ℕ → Agent
+    holding v = record { pos = p; regs = replicate (r .x + 1) v }
+
+    held : (v : ℕ) → getD (holding v .regs) (r .x) 0 ≡ v
+    held v = getD-replicate (r .x + 1) (r .x) v 0 (omega arith)
+
+    go : (js : List ℕ) → Onward r p js → OneOf j js → Way r p j
+    go js (both (inl k)) (inl e) =
+        (holding 1, Nothing, refl, ap (λ (g : Agent). g .pos) (sym (after-stay r Nothing (holding 1) k (λ z. let h = held 1 in omega arith))) ∙ sym e)
+    go js (both (inl k)) (inr (inl e)) = (holding 0, Nothing, refl, ap (λ (g : Agent). g .pos) (sym (after-skip r Nothing (holding 0) k (held 0))) ∙ sym e)
+    go js (both (inr v)) (inl e) = (holding 0, Message 0 0 0 0, refl, ap (λ (g : Agent). g .pos) (sym (after-receive r (Message 0 0 0 0) (holding 0) v)) ∙ sym e)
+    go js (both (inr v)) (inr (inl e)) = (holding 0, Nothing, refl, ap (λ (g : Agent). g .pos) (sym (after-receive r Nothing (holding 0) v)) ∙ sym e)
+    go js (far o) (inl e) = (holding 0, Nothing, refl, ap (λ (g : Agent). g .pos) (sym (after-jump r Nothing (holding 0) o)) ∙ sym e)
+    go js (near o) (inl e) = (holding 0, Nothing, refl, goes-near r Nothing (holding 0) o ∙ sym e)
 
 -- ---- the agent of an accepted step
 
 module _ (tb st : List ℕ) (a t : ℕ) (long : length st ≡ 1105) (low : a < 16) where
-  pub pos-goes : GoesOn tb a (pos st a) (pos (accepted tb st a t) a)
+  pub pos-goes : OneOf (pos (accepted tb st a t) a) (goesOnTo (current tb st a) (pos st a))
   pos-goes = rw (accepted-pos tb st a t long low) (after-goes (current tb st a) (best tb (pool st) (current tb st a)) (agentAt st a))
 
   pub pos-rises : pos st a < pos (accepted tb st a t) a

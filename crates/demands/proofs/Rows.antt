@@ -1,6 +1,6 @@
 -- A row's instruction: what it sends and awaits, and that it does what the executive's row does. Assumes nothing.
 use mathlib.Core.Path.{_≡_, refl, sym, ap, _∙_}
-use mathlib.Core.Logic.{_≢_, inl, inr}
+use mathlib.Core.Logic.{_≢_}
 use mathlib.Core.Bool.{Bool, true, false, cond}
 use mathlib.Core.Option.{Option, none, some, Option·none-ne-some, Option·some-injective}
 use mathlib.Core.List.{List}
@@ -114,12 +114,6 @@ module _ (T : List ℕ) (a : ℕ) (s : Agent) (msgs : Messages) where
   posted r got = posted-kind got (kind r)
 
   -- whatever is got, a row goes on at one of the rows that it can go on to
-  on-kind : {r : Row} {i : Instruction Agent} (got : Option ℕ) → Kind r i → OneOf (execIns (published T) a s msgs got i .0 .pos) (goesOnTo r (s .pos))
-  unfolding goesOnTo
-  on-kind got (sends op) = rw op (inl (add-zero (s .pos + 1)))
-  on-kind none (receives op) = rw op (inr (inl refl))
-  on-kind (some v) (receives op) = rw op (inl refl)
-  on-kind {r} got (others p q) = rw (rows-are-models r s q) (after-goes r Nothing s)
-
   pub goes-on : (r : Row) (got : Option ℕ) → OneOf (execIns (published T) a s msgs got (instructionOf r) .0 .pos) (goesOnTo r (s .pos))
-  goes-on r got = on-kind got (kind r)
+  goes-on r none = rw (effect r Nothing) (after-goes r Nothing s)
+  goes-on r (some v) = rw (effect r (Message 0 0 0 v)) (after-goes r (Message 0 0 0 v) s)

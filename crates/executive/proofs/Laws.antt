@@ -4,15 +4,20 @@ use mathlib.Core.List.{[], _∷_}
 use Prim.Native.Nat.{ℕ, zero, suc, _+_, _<_}
 use native.Mathlib.Decide.{ℕ-discrete}
 use native.Mathlib.Omega.{arith}
+use Rattle.tables.specs.Basics.{OneOf}
+use Rattle.tables.specs.Rows.{goesOnTo}
 use Rattle.tables.specs.Paths.{GoesOn, Path, here, on}
 use Rattle.tables.proofs.Good.{few, few-rows}
-use Rattle.tables.proofs.Paths.{earlier-is-past}
-use Rattle.executive.specs.Laws.{BestIsTaken, NoneIsTaken, NextDepends, AcceptedExactly, StuckExactly, NeverStuck, StartFits, StepKeepsFit, StepGoesOn, RunIsPath, EarlierNeverComes, SendIsSent, RunIsSteps, RunCounts}
+use Rattle.tables.proofs.Paths.{windows-climb}
+use Rattle.executive.specs.Laws.{BestIsTaken, NoneIsTaken, NextDepends, AcceptedExactly, StuckExactly, NeverStuck, StartFits, StepKeepsFit, GoesOnExactly, StepGoesOn, RunIsPath, EarlierNeverComes, SendIsSent, RunIsSteps, RunCounts}
+use Rattle.choices.specs.declared.Agent.{Agent}
+use Rattle.choices.specs.declared.Best.{Best}
 use Rattle.choices.specs.State.{pos}
+use Rattle.choices.specs.Effect.{after}
 use Rattle.choices.specs.Step.{choiceReply, accepted}
 use Rattle.executive.specs.Run.{RunOutcome, runFrom}
 use Rattle.choices.proofs.After.{accepted-length, accepted-pos-other, sent-own-mark, sent-own-value}
-use Rattle.choices.proofs.Onward.{pos-goes}
+use Rattle.choices.proofs.Onward.{after-goes, way-taken, pos-goes}
 use Rattle.choices.proofs.Choice.{allowed, allowed-reply}
 use Rattle.executive.proofs.Fitting.{fits-says}
 use Rattle.executive.proofs.Start.{start-length}
@@ -61,11 +66,20 @@ step-keeps-fit tb st a t s c =
       state = accepted-length tb st a t (s .state) low;
     }
 
+pub goes-on-exactly : GoesOnExactly
+goes-on-exactly r p j = (there, back)
+  where
+    there : OneOf j (goesOnTo r p) → (s : Agent) × (m : Best) × (s .pos ≡ p) × (after r m s .pos ≡ j)
+    there = way-taken r p j
+
+    back : ((s : Agent) × (m : Best) × (s .pos ≡ p) × (after r m s .pos ≡ j)) → OneOf j (goesOnTo r p)
+    back w = rw (← w .3, ← w .2) (after-goes r (w .1) (w .0))
+
 pub step-goes-on : StepGoesOn
 step-goes-on tb st a t s c =
     let h = allowed tb st a t c .agent in
     let low : a < 16 = omega (arith, few tb (s .good)) in
-    (pos-goes tb st a t (s .state) low, λ b l n. accepted-pos-other tb st a t (s .state) low b (omega (arith, few tb (s .good))) n)
+    ((allowed tb st a t c .unended, pos-goes tb st a t (s .state) low), λ b l n. accepted-pos-other tb st a t (s .state) low b (omega (arith, few tb (s .good))) n)
 
 pub run-is-path : RunIsPath
 unfolding runFrom
@@ -73,19 +87,19 @@ run-is-path tb st n [] s b h = here
 run-is-path tb st n (a ∷ []) s b h = here
 run-is-path tb st n (a ∷ t ∷ cs) s b h = go (choiceReply tb st a t) refl (λ c. run-is-path tb (accepted tb st a t) (n + 1) cs (step-keeps-fit tb st a t s c) b h)
   where
-    after-step : choiceReply tb st a t ≡ 0 → {k : ℕ} → Dec (b ≡ a) → Path tb b (pos (accepted tb st a t) b) k → Path tb b (pos st b) k
+    after-step : choiceReply tb st a t ≡ 0 → {k : ℕ} → Dec (b ≡ a) → Path (GoesOn tb b) (pos (accepted tb st a t) b) k → Path (GoesOn tb b) (pos st b) k
     after-step c (yes e) p = on (subst (λ (d : ℕ). GoesOn tb d (pos st d) (pos (accepted tb st a t) d)) (sym e) (step-goes-on tb st a t s c .0)) p
-    after-step c {k} (no n) p = subst (λ (i : ℕ). Path tb b i k) (step-goes-on tb st a t s c .1 b h n) p
+    after-step c {k} (no n) p = subst (λ (i : ℕ). Path (GoesOn tb b) i k) (step-goes-on tb st a t s c .1 b h n) p
 
-    go : (r : ℕ) → choiceReply tb st a t ≡ r → (choiceReply tb st a t ≡ 0 → Path tb b (pos (accepted tb st a t) b) (pos (runFrom tb (accepted tb st a t) (n + 1) cs .state) b))
-        → Path tb b (pos st b) (pos (runFrom tb st n (a ∷ t ∷ cs) .state) b)
+    go : (r : ℕ) → choiceReply tb st a t ≡ r → (choiceReply tb st a t ≡ 0 → Path (GoesOn tb b) (pos (accepted tb st a t) b) (pos (runFrom tb (accepted tb st a t) (n + 1) cs .state) b))
+        → Path (GoesOn tb b) (pos st b) (pos (runFrom tb st n (a ∷ t ∷ cs) .state) b)
     go zero c rec =
-        subst (λ (o : RunOutcome). Path tb b (pos st b) (pos (o .state) b)) (sym (run-go tb st n a t cs c)) (after-step c (ℕ-discrete b a) (rec c))
-    go (suc r) c rec = subst (λ (o : RunOutcome). Path tb b (pos st b) (pos (o .state) b)) (sym (run-stop tb st n a t cs r c)) here
+        subst (λ (o : RunOutcome). Path (GoesOn tb b) (pos st b) (pos (o .state) b)) (sym (run-go tb st n a t cs c)) (after-step c (ℕ-discrete b a) (rec c))
+    go (suc r) c rec = subst (λ (o : RunOutcome). Path (GoesOn tb b) (pos st b) (pos (o .state) b)) (sym (run-stop tb st n a t cs r c)) here
 
 pub earlier-never-comes : EarlierNeverComes
 earlier-never-comes tb st n cs s b h i l m e =
-    earlier-is-past tb (s .good) b h (pos st b) i l m (subst (Path tb b (pos st b)) e (run-is-path tb st n cs s b h))
+    let (_, up) = windows-climb tb (s .good) b h (pos st b) i (subst (Path (GoesOn tb b) (pos st b)) e (run-is-path tb st n cs s b h)) l in omega arith
 
 pub send-is-sent : SendIsSent
 send-is-sent tb st a t s c send =

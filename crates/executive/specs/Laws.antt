@@ -6,13 +6,17 @@ use mathlib.Core.List.{List, [], _∷_}
 use Prim.Native.Nat.{ℕ, zero, suc, _+_, _≤_, _<_}
 use lib.ListN.{length}
 use Rattle.tables.specs.Layout.{agents, rows, row, tableWords}
+use Rattle.tables.specs.Basics.{OneOf}
+use Rattle.tables.specs.Rows.{goesOnTo}
 use Rattle.tables.specs.Table.{goodTable}
 use Rattle.tables.specs.Paths.{GoesOn, Path}
 use Rattle.tables.specs.declared.Row.{Row}
+use Rattle.choices.specs.declared.Agent.{Agent}
 use Rattle.choices.specs.declared.Best.{Best}
 use Rattle.choices.specs.declared.Best.the-variants.{Nothing, Message}
 use Rattle.choices.specs.State.{pos, mark, value, Pool, pool, agentAt, startWords, stateWords}
 use Rattle.choices.specs.Messages.{visible, best}
+use Rattle.choices.specs.Effect.{after}
 use Rattle.choices.specs.Fit.{current, fits}
 use Rattle.choices.specs.Step.{choiceReply, Allowed, stuck, accepted}
 use Rattle.executive.specs.Effects.{heldX}
@@ -90,6 +94,10 @@ StepKeepsFit = (tb st : List ℕ) (a t : ℕ) → Sound tb st → choiceReply tb
 
 -- ---- where an agent can come to
 
+-- the rows that a row can go on to are just those at which it takes some agent that stands at it, with some message or none
+abbrev pub GoesOnExactly : Type 0
+GoesOnExactly = (r : Row) (p j : ℕ) → OneOf j (goesOnTo r p) ↔ ((s : Agent) × (m : Best) × (s .pos ≡ p) × (after r m s .pos ≡ j))
+
 -- a step takes its agent to a row that its row can go on to, and leaves every other agent where it is
 abbrev pub StepGoesOn : Type 0
 StepGoesOn = (tb st : List ℕ) (a t : ℕ) → Sound tb st → choiceReply tb st a t ≡ 0
@@ -97,7 +105,7 @@ StepGoesOn = (tb st : List ℕ) (a t : ℕ) → Sound tb st → choiceReply tb s
 
 -- so a run takes each agent along a path of rows, whatever the choices
 abbrev pub RunIsPath : Type 0
-RunIsPath = (tb st : List ℕ) (n : ℕ) (cs : List ℕ) → Sound tb st → (b : ℕ) → b < agents tb → Path tb b (pos st b) (pos (runFrom tb st n cs .state) b)
+RunIsPath = (tb st : List ℕ) (n : ℕ) (cs : List ℕ) → Sound tb st → (b : ℕ) → b < agents tb → Path (GoesOn tb b) (pos st b) (pos (runFrom tb st n cs .state) b)
 
 -- and never to a row whose late is below that of its row now
 abbrev pub EarlierNeverComes : Type 0

@@ -2,7 +2,7 @@
 use mathlib.Core.Path.{_≡_, refl, sym, ap, subst}
 use mathlib.Core.Bool.{Bool, true, false, not, cond}
 use mathlib.Core.List.{List, [], _∷_}
-use Prim.Native.Nat.{ℕ, zero, suc, _+_, _*_, _≤_, _<_}
+use Prim.Native.Nat.{ℕ, zero, suc, _+_, _*_, _≤_}
 use native.Mathlib.Decide.{ℕ-discrete}
 use native.Mathlib.Omega.{arith}
 use lib.Dec.{T, eqb, leb, ltb, leb→le}
@@ -19,10 +19,12 @@ use Rattle.reading.specs.Calls.{Read, ReadOutcome, readInto}
 use Rattle.tables.specs.declared.Row.{Row}
 use Rattle.reading.specs.declared.Told.{Told}
 use Rattle.tables.proofs.Judging.{fault-small}
+use Rattle.tables.proofs.Good.{TableFacts}
 use Rattle.reading.proofs.Places.{mayOpen, mayGive, open-room, give-room, place-open, place-open-not, place-give, place-give-not, place-end, place-end-not}
 use Rattle.reading.proofs.Accepted.{Placed, placed-first, open-on, give-on}
 use Rattle.reading.proofs.RowsRead.{good-row, bad-row}
 use Rattle.reading.proofs.Outcomes.{told-then, told-first, short-table, read-told}
+use Rattle.reading.proofs.Climbs.{row-on, row-back}
 use Rattle.reading.proofs.ReadGood.{rows-facts}
 
 pub record SmallTold (t : Told) : Type 0 where
@@ -107,19 +109,20 @@ module _ (tb : List ℕ) where
   rows-climb-small : (k n a i : ℕ) → n + k ≤ 562 → SmallTold (rowsClimb tb n a i k)
   unfolding rowsClimb
   rows-climb-small zero n a i h = small 0 0 (omega arith) (omega arith)
-  rows-climb-small (suc k) n a i h = go (climbs tb a i) (rows-climb-small k (n + 1) a (i + 1) (omega arith))
+  rows-climb-small (suc k) n a i h = go (climbs tb a i) refl (rows-climb-small k (n + 1) a (i + 1) (omega arith))
     where
-      go : (b : Bool) → SmallTold (rowsClimb tb (n + 1) a (i + 1) k) → SmallTold (elim b as (λ _. Told) [ true ↦ rowsClimb tb (n + 1) a (i + 1) k | false ↦ told 7 n ])
-      go true rec = rec
-      go false rec = small 7 n (omega arith) (omega arith)
+      go : (b : Bool) → climbs tb a i ≡ b → SmallTold (rowsClimb tb (n + 1) a (i + 1) k) → SmallTold (rowsClimb tb n a i (suc k))
+      go true e rec = subst SmallTold (sym (row-on tb n a i k e)) rec
+      go false e rec = subst SmallTold (sym (row-back tb n a i k e)) (small 7 n (omega arith) (omega arith))
 
-  agents-climb-small : ((b : ℕ) → b < agents tb → rows tb b ≤ 32) → agents tb ≤ 16 → (m n a : ℕ) → a + m ≡ agents tb → n ≤ 33 * a + 1 → SmallTold (agentsClimb tb n a m)
+  agents-climb-small : TableFacts tb → (m n a : ℕ) → a + m ≡ agents tb → n ≤ 33 * a + 1 → SmallTold (agentsClimb tb n a m)
   unfolding agentsClimb
-  agents-climb-small few most zero n a e h = small 0 0 (omega arith) (omega arith)
-  agents-climb-small few most (suc m) n a e h =
-      let c = few a (omega arith) in
+  agents-climb-small f zero n a e h = small 0 0 (omega arith) (omega arith)
+  agents-climb-small f (suc m) n a e h =
+      let c = f .each-agent a (omega arith) .rows-few in
+      let l = f .few-agents in
       either-small _ _ (rows-climb-small (rows tb a) (n + 1) a 0 (omega arith))
-      (λ z. agents-climb-small few most m (n + 1 + rows tb a) (a + 1) (omega arith) (omega arith))
+      (λ z. agents-climb-small f m (n + (1 + rows tb a)) (a + 1) (omega arith) (omega arith))
 
 frames-small : (text : List ℕ) → SmallTold (framesReply (framesOf text))
 unfolding framesReply tableClimbs
@@ -127,9 +130,7 @@ frames-small text =
     let fs = framesOf text in
     either-small _ _ (place-small fs 1 0 0 (omega arith) (omega arith) (omega arith))
     (λ p. either-small _ _ (rows-small fs 1 0 0 0 (placed-first fs p))
-    (λ z.
-    let f = rows-facts text p z in
-    agents-climb-small (tableOf fs) (λ b h. f .each-agent b h .rows-few) (f .few-agents) (agents (tableOf fs)) 1 0 (omega arith) (omega arith)))
+    (λ z. agents-climb-small (tableOf fs) (rows-facts text p z) (agents (tableOf fs)) 1 0 (omega arith) (omega arith)))
 
 pub read-small : (text tb : List ℕ) (t : Told) (after : List ℕ) → Read text tb t after → SmallTold t
 read-small text tb t after r = subst SmallTold (sym (ap (λ (o : ReadOutcome). o .told) r)) (go (ltb (length tb) tableWords) refl)

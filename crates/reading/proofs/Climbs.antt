@@ -20,10 +20,10 @@ module _ (tb : List ℕ) where
     unfolding rowsClimb
     row-by b h = ap {B = Told} (λ (t : Bool). elim t as (λ _. Told) [ true ↦ rowsClimb tb (n + 1) a (i + 1) k | false ↦ told 7 n ]) h
 
-    row-on : climbs tb a i ≡ true → rowsClimb tb n a i (suc k) ≡ rowsClimb tb (n + 1) a (i + 1) k
+    pub row-on : climbs tb a i ≡ true → rowsClimb tb n a i (suc k) ≡ rowsClimb tb (n + 1) a (i + 1) k
     row-on h = row-by true h
 
-    row-back : climbs tb a i ≡ false → rowsClimb tb n a i (suc k) ≡ told 7 n
+    pub row-back : climbs tb a i ≡ false → rowsClimb tb n a i (suc k) ≡ told 7 n
     row-back h = row-by false h
 
   -- ---- the c rows of agent a, the first of them in line n: before row i
@@ -51,36 +51,36 @@ module _ (tb : List ℕ) where
     unfolding rowsClimb
     no-row i t h = let e : c - i ≡ 0 = omega arith in sym (t ∙ ap (rowsClimb tb (n + i) a i) e)
 
-  -- ---- all agents: before agent a, which line n opens
+  -- ---- all agents, the first of which line m opens: before agent a, which line n opens
 
-  abbrev pub AgentsLeft : (n a : ℕ) → Type 0
-  AgentsLeft n a = tableClimbs tb ≡ agentsClimb tb n a (agents tb - a)
+  module _ (m : ℕ) where
+    abbrev pub AgentsLeft : (n a : ℕ) → Type 0
+    AgentsLeft n a = tableClimbs tb m ≡ agentsClimb tb n a (agents tb - a)
 
-  pub first-agent : AgentsLeft 1 0
-  unfolding tableClimbs
-  first-agent = let e : agents tb ≡ agents tb - 0 = omega arith in ap (agentsClimb tb 1 0) e
+    pub first-agent : AgentsLeft m 0
+    unfolding tableClimbs
+    first-agent = let e : agents tb ≡ agents tb - 0 = omega arith in ap (agentsClimb tb m 0) e
 
-  module _ (n a : ℕ) (t : AgentsLeft n a) (l : a < agents tb) (q : Told) (its : q ≡ rowsClimb tb (n + 1) a 0 (rows tb a)) where
-    abbrev rest : Told
-    rest = agentsClimb tb (n + 1 + rows tb a) (a + 1) (agents tb - (a + 1))
+    -- q is told of its c rows
+    module _ (n a c : ℕ) (t : AgentsLeft n a) (l : a < agents tb) (count : c ≡ rows tb a) (q : Told) (its : q ≡ rowsClimb tb (n + 1) a 0 c) where
+      abbrev rest : Told
+      rest = agentsClimb tb (n + (1 + c)) (a + 1) (agents tb - (a + 1))
 
-    agent-first : tableClimbs tb ≡ firstTold q rest
+      agent-first : tableClimbs tb m ≡ firstTold q rest
+      unfolding agentsClimb
+      agent-first =
+          let e : agents tb - a ≡ suc (agents tb - (a + 1)) = omega arith in
+          t ∙ ap (agentsClimb tb n a) e ∙ rw (its, count)
+
+      pub next-agent : q .reply ≡ 0 → AgentsLeft (n + (1 + c)) (a + 1)
+      next-agent h = agent-first ∙ told-then q rest h
+
+      pub agent-back : (q .reply ≡ 0 → ⊥) → q ≡ tableClimbs tb m
+      agent-back k = sym (agent-first ∙ told-first q rest k)
+
+    pub no-agent : (n a : ℕ) → AgentsLeft n a → agents tb ≤ a → told 0 0 ≡ tableClimbs tb m
     unfolding agentsClimb
-    agent-first =
-        let e : agents tb - a ≡ suc (agents tb - (a + 1)) = omega arith in
-        t ∙ ap (agentsClimb tb n a) e ∙ ap (λ (u : Told). firstTold u rest) (sym its)
-
-    pub next-agent : q .reply ≡ 0 → AgentsLeft (n + (1 + rows tb a)) (a + 1)
-    next-agent h =
-        let e : n + 1 + rows tb a ≡ n + (1 + rows tb a) = omega arith in
-        agent-first ∙ told-then q rest h ∙ ap (λ (m : ℕ). agentsClimb tb m (a + 1) (agents tb - (a + 1))) e
-
-    pub agent-back : (q .reply ≡ 0 → ⊥) → q ≡ tableClimbs tb
-    agent-back k = sym (agent-first ∙ told-first q rest k)
-
-  pub no-agent : (n a : ℕ) → AgentsLeft n a → agents tb ≤ a → told 0 0 ≡ tableClimbs tb
-  unfolding agentsClimb
-  no-agent n a t h = let e : agents tb - a ≡ 0 = omega arith in sym (t ∙ ap (agentsClimb tb n a) e)
+    no-agent n a t h = let e : agents tb - a ≡ 0 = omega arith in sym (t ∙ ap (agentsClimb tb n a) e)
 
   -- ---- 0 exactly where every row climbs
 
@@ -98,8 +98,8 @@ module _ (tb : List ℕ) where
   unfolding agentsClimb
   agents-on zero n a z b i h l r = absurd (omega arith)
   agents-on (suc m) n a z b i h l r =
-      let (x, y) = told-neither (rowsClimb tb (n + 1) a 0 (rows tb a)) (agentsClimb tb (n + 1 + rows tb a) (a + 1) m) z in
-      go (ℕ-discrete b a) x (agents-on m (n + 1 + rows tb a) (a + 1) y b i)
+      let (x, y) = told-neither (rowsClimb tb (n + 1) a 0 (rows tb a)) (agentsClimb tb (n + (1 + rows tb a)) (a + 1) m) z in
+      go (ℕ-discrete b a) x (agents-on m (n + (1 + rows tb a)) (a + 1) y b i)
     where
       go : Dec (b ≡ a) → rowsClimb tb (n + 1) a 0 (rows tb a) .reply ≡ 0 → (a + 1 ≤ b → b < a + 1 + m → i < rows tb b → climbs tb b i ≡ true) → climbs tb b i ≡ true
       go (yes e) x rec =
@@ -107,9 +107,9 @@ module _ (tb : List ℕ) where
           ap (λ (d : ℕ). climbs tb d i) e ∙ rows-on (rows tb a) (n + 1) a 0 x i (omega arith) (omega arith)
       go (no d) x rec = rec (omega (arith, d)) (omega arith) r
 
-  pub told-climbing : tableClimbs tb .reply ≡ 0 → Climbing tb
+  pub told-climbing : (n : ℕ) → tableClimbs tb n .reply ≡ 0 → Climbing tb
   unfolding tableClimbs
-  told-climbing z a i h l = agents-on (agents tb) 1 0 z a i (omega arith) (omega arith) l
+  told-climbing n z a i h l = agents-on (agents tb) n 0 z a i (omega arith) (omega arith) l
 
   rows-all : (k n a i : ℕ) → ((j : ℕ) → j < i + k → climbs tb a j ≡ true) → rowsClimb tb n a i k ≡ told 0 0
   unfolding rowsClimb
@@ -121,8 +121,8 @@ module _ (tb : List ℕ) where
   agents-all zero n a e c = refl
   agents-all (suc m) n a e c =
       let r = rows-all (rows tb a) (n + 1) a 0 (λ i l. c a i (omega arith) (omega arith)) in
-      told-then _ _ (ap (λ (u : Told). u .reply) r) ∙ agents-all m (n + 1 + rows tb a) (a + 1) (omega arith) c
+      told-then _ _ (ap (λ (u : Told). u .reply) r) ∙ agents-all m (n + (1 + rows tb a)) (a + 1) (omega arith) c
 
-  pub climbing-told : Climbing tb → tableClimbs tb ≡ told 0 0
+  pub climbing-told : (n : ℕ) → Climbing tb → tableClimbs tb n ≡ told 0 0
   unfolding tableClimbs
-  climbing-told c = agents-all (agents tb) 1 0 (omega arith) c
+  climbing-told n c = agents-all (agents tb) n 0 (omega arith) c

@@ -35,26 +35,26 @@ module _ (t u : Told) where
     where
       go : (r : ℕ) → t .reply ≡ r → (r ≡ 0) × (u .reply ≡ 0)
       go zero h = (refl, ap (λ (v : Told). v .reply) (sym (told-then h)) ∙ z)
-      go (suc r) h = (sym h ∙ ap (λ (v : Told). v .reply) (sym (by (suc r) h)) ∙ z, absurd (let y = ap (λ (v : Told). v .reply) (by (suc r) h) in omega arith))
+      go (suc r) h = absurd (let y = ap (λ (v : Told). v .reply) (by (suc r) h) in omega arith)
 
 -- ---- the reply to frames, by the first pass that refuses
 
 module _ (fs : List Frame) where
-  pub misplaced : (inPlace 1 0 0 fs .reply ≡ 0 → ⊥) → framesReply fs ≡ inPlace 1 0 0 fs
+  pub not-placed : (t : Told) → t ≡ inPlace 1 0 0 fs → (t .reply ≡ 0 → ⊥) → t ≡ framesReply fs
   unfolding framesReply
-  misplaced k = told-first _ _ k
+  not-placed t e k = e ∙ sym (told-first _ _ (λ z. k (ap (λ (u : Told). u .reply) e ∙ z)))
 
   module _ (placed : inPlace 1 0 0 fs .reply ≡ 0) where
-    pub row-refused : (rowsGood 1 0 0 fs .reply ≡ 0 → ⊥) → framesReply fs ≡ rowsGood 1 0 0 fs
+    pub not-passed : (t : Told) → t ≡ rowsGood 1 0 0 fs → (t .reply ≡ 0 → ⊥) → t ≡ framesReply fs
     unfolding framesReply
-    row-refused k = told-then _ _ placed ∙ told-first _ _ k
+    not-passed t e k = e ∙ sym (told-then _ _ placed ∙ told-first _ _ (λ z. k (ap (λ (u : Told). u .reply) e ∙ z)))
 
-    pub rows-passed : rowsGood 1 0 0 fs .reply ≡ 0 → framesReply fs ≡ tableClimbs (tableOf fs)
+    pub all-passed : rowsGood 1 0 0 fs .reply ≡ 0 → tableClimbs (tableOf fs) 1 ≡ framesReply fs
     unfolding framesReply
-    rows-passed h = told-then _ _ placed ∙ told-then _ _ h
+    all-passed h = sym (told-then _ _ placed ∙ told-then _ _ h)
 
   module _ (h : framesReply fs .reply ≡ 0) where
-    neither : (inPlace 1 0 0 fs .reply ≡ 0) × (firstTold (rowsGood 1 0 0 fs) (tableClimbs (tableOf fs)) .reply ≡ 0)
+    neither : (inPlace 1 0 0 fs .reply ≡ 0) × (firstTold (rowsGood 1 0 0 fs) (tableClimbs (tableOf fs) 1) .reply ≡ 0)
     unfolding framesReply
     neither = told-neither _ _ h
 
@@ -64,7 +64,7 @@ module _ (fs : List Frame) where
     pub accepted-rows : rowsGood 1 0 0 fs .reply ≡ 0
     accepted-rows = told-neither _ _ (neither .1) .0
 
-    pub accepted-climbs : tableClimbs (tableOf fs) .reply ≡ 0
+    pub accepted-climbs : tableClimbs (tableOf fs) 1 .reply ≡ 0
     accepted-climbs = told-neither _ _ (neither .1) .1
 
 -- ---- what a read leaves, by the reply to its frames

@@ -132,7 +132,7 @@ climbs-ready text words p z w =
 pub read-good : (text : List ℕ) → framesReply (framesOf text) .reply ≡ 0 → goodTable (tableOf (framesOf text)) ≡ true
 read-good text h =
     let fs = framesOf text in
-    table-good (tableOf fs) (rows-facts text (accepted-placed fs h) (accepted-rows fs h)) (told-climbing (tableOf fs) (accepted-climbs fs h))
+    table-good (tableOf fs) (rows-facts text (accepted-placed fs h) (accepted-rows fs h)) (told-climbing (tableOf fs) 1 (accepted-climbs fs h))
 
 pub read-checked : (text tb : List ℕ) (t : Told) (after : List ℕ) → Read text tb t after → t .reply ≡ 0 → Checked after 0
 read-checked text tb t after r z =

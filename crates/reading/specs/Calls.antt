@@ -26,7 +26,7 @@ framesInto tb fs =
       | suc r ↦ readOutcome (framesReply fs) tb
     ]
 
--- "reading, 1 first, then 2 and 3, then 4 to 7", with T-01's 18 and 19 between 2 and 3
+-- "reading, 1 first, then 2 and 3, then 4 to 7", with T-01's 18 and 19 between 2 and 3, and by T-03 7 once all rows have passed 4 to 6
 unfoldable pub readInto : (text table : List ℕ) → ReadOutcome
 readInto text tb = elim (ltb (length tb) tableWords) [ true ↦ readOutcome (told 1 0) tb | false ↦ framesInto tb (framesOf text) ]
 

@@ -34,13 +34,17 @@ unknown e l = 0x05000000 ∷ 0 ∷ e ∷ l ∷ []
 agent : ℕ → List (List ℕ) → List Frame
 agent a rs = opens a (replicate 4 0) ∷ map (gives a) rs
 
--- one agent of these rows is told with this reply and line
-asks : List (List ℕ) → (reply line : ℕ) → Bool
-asks rs r n = let t = framesReply (agent 0 rs ++ ends ∷ []) in eqb (t .reply) r && eqb (t .line) n
+agents : ℕ → List (List (List ℕ)) → List Frame
+agents a [] = ends ∷ []
+agents a (rs ∷ rss) = agent a rs ++ agents (a + 1) rss
 
--- two agents
-asksTwo : (rs ss : List (List ℕ)) → (reply line : ℕ) → Bool
-asksTwo rs ss r n = let t = framesReply (agent 0 rs ++ agent 1 ss ++ ends ∷ []) in eqb (t .reply) r && eqb (t .line) n
+-- agents of these rows are told with this reply and line
+asksAll : List (List (List ℕ)) → (reply line : ℕ) → Bool
+asksAll rss r n = let t = framesReply (agents 0 rss) in eqb (t .reply) r && eqb (t .line) n
+
+-- one agent
+asks : List (List ℕ) → (reply line : ℕ) → Bool
+asks rs = asksAll (rs ∷ [])
 
 cases : T (every (
     -- SKIP, one arm, JUMP, the other arm, both in one time
@@ -61,13 +65,15 @@ cases : T (every (
     -- the end has no window
     ∷ asks (skip 0 4 8 ∷ []) 0 0
     ∷ asks (jump 1 4 8 ∷ set 1 2 ∷ []) 0 0
-    -- the earliest of two, in the order of lines
+    -- the earliest of two in the order of lines, also where its row to go on to comes later
     ∷ asks (set 4 8 ∷ set 3 8 ∷ set 2 8 ∷ []) 7 2
-    ∷ asksTwo (set 4 8 ∷ set 4 8 ∷ []) (set 4 8 ∷ set 3 8 ∷ []) 7 5
+    ∷ asks (skip 2 4 9 ∷ set 5 9 ∷ set 4 9 ∷ set 3 9 ∷ []) 7 2
+    -- a second agent's row, in its line
+    ∷ asksAll ((set 4 8 ∷ set 4 8 ∷ []) ∷ (set 4 8 ∷ set 3 8 ∷ []) ∷ []) 7 5
     -- 4 to 6 of every row come first
     ∷ asks (set 4 8 ∷ set 3 8 ∷ unknown 3 8 ∷ []) 4 4
     ∷ asks (set 4 8 ∷ jump 1 3 8 ∷ []) 5 3
-    ∷ asksTwo (set 4 8 ∷ set 3 8 ∷ []) (set 5 5 ∷ []) 6 5
+    ∷ asksAll ((set 4 8 ∷ set 3 8 ∷ []) ∷ (set 5 5 ∷ []) ∷ []) 6 5
     ∷ []))
-unfolding every asks asksTwo agent first framesReply firstTold inPlace rowsNext rowsGood rowReply wellFormed fieldsFit namesOf within rowOf loaded tableOf tableClimbs agentsClimb rowsClimb climbs climbsTo notAbove goesOnTo
+unfolding every asks asksAll agents agent first framesReply firstTold inPlace rowsNext rowsGood rowReply wellFormed fieldsFit namesOf within rowOf loaded tableOf tableClimbs agentsClimb rowsClimb climbs climbsTo notAbove goesOnTo
 cases = tt

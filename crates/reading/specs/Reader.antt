@@ -131,14 +131,14 @@ firstTold t u = elim (t .reply) [ zero ↦ u | suc r ↦ t ]
 -- of the m agents from agent a on, which line n opens: its rows' lines follow it, and then the next agent's
 unfoldable pub agentsClimb : (tb : List ℕ) (n a m : ℕ) → Told
 agentsClimb tb n a zero = told 0 0
-agentsClimb tb n a (suc m) = firstTold (rowsClimb tb (n + 1) a 0 (rows tb a)) (agentsClimb tb (n + 1 + rows tb a) (a + 1) m)
+agentsClimb tb n a (suc m) = firstTold (rowsClimb tb (n + 1) a 0 (rows tb a)) (agentsClimb tb (n + (1 + rows tb a)) (a + 1) m)
 
--- of all agents, the first of which line 1 opens
-unfoldable pub tableClimbs : List ℕ → Told
-tableClimbs tb = agentsClimb tb 1 0 (agents tb)
+-- of all agents, the first of which line n opens
+unfoldable pub tableClimbs : (tb : List ℕ) (n : ℕ) → Told
+tableClimbs tb n = agentsClimb tb n 0 (agents tb)
 
 -- ---- the reply to the frames of a text, with its line
 
 -- "First all lines are read for 2 and 3", and by T-01 for 18 and 19 between them, ".. Then rows are taken in order for 4, 5, 6", and by T-03 7 "is tested once all rows have passed 4 to 6".
 unfoldable pub framesReply : List Frame → Told
-framesReply fs = firstTold (inPlace 1 0 0 fs) (firstTold (rowsGood 1 0 0 fs) (tableClimbs (tableOf fs)))
+framesReply fs = firstTold (inPlace 1 0 0 fs) (firstTold (rowsGood 1 0 0 fs) (tableClimbs (tableOf fs) 1))

@@ -6,7 +6,7 @@ use tables::layout::row_count;
 use tables::replies::ACCEPTED;
 use tables::replies::WINDOW_GOES_BACK;
 ghost use mathlib.Core.Path.{_≡_};
-ghost use Prim.Native.Nat.{ℕ, _+_, _≤_, _<_};
+ghost use Prim.Native.Nat.{ℕ, _^_, _≤_, _<_};
 ghost use lib.ListN.{length};
 ghost use Rattle.tables.specs.Layout.{agents, rows, tableWords};
 ghost use Rattle.tables.specs.Table.{rowReplyAt};
@@ -14,7 +14,7 @@ ghost use Rattle.reading.specs.Reader.{rowsClimb, tableClimbs};
 
 // Reply 7, or 0, of the c rows of agent a, the first of which stands in line n.
 fn rows_climb(table: &[u32], n: u32, a: usize, c: usize) -> Told
-    requires { ⌜ (tableWords ≤ length (now table)) × (n ≤ 562) × (a < 16) × (c ≡ rows (now table) a) × (c ≤ 32) × ((i : ℕ) → i < c → rowReplyAt (now table) a i ≡ 0) ⌝ }
+    requires { ⌜ (tableWords ≤ length (now table)) × (n < 2 ^ 17) × (a < 16) × (c ≡ rows (now table) a) × (c ≤ 32) × ((i : ℕ) → i < c → rowReplyAt (now table) a i ≡ 0) ⌝ }
     ensures { λ r. ⌜ r ≡ rowsClimb (now (table .entry)) n a 0 c ⌝ }
 {
     let mut i = 0;
@@ -33,21 +33,21 @@ fn rows_climb(table: &[u32], n: u32, a: usize, c: usize) -> Told
     }
 }
 
-// Reply 7, or 0, of the rows of every agent.
-pub fn table_climbs(table: &[u32]) -> Told
-    requires { ⌜ (length (now table) ≡ tableWords) × (agents (now table) ≤ 16) × ((a : ℕ) → a < agents (now table) → rows (now table) a ≤ 32) × ((a i : ℕ) → a < agents (now table) → i < rows (now table) a → rowReplyAt (now table) a i ≡ 0) ⌝ }
-    ensures { λ r. ⌜ r ≡ tableClimbs (now (table .entry)) ⌝ }
+// Reply 7, or 0, of the rows of every agent, the first of which line n opens.
+pub fn table_climbs(table: &[u32], n: u32) -> Told
+    requires { ⌜ (length (now table) ≡ tableWords) × (n < 2 ^ 16) × (agents (now table) ≤ 16) × ((a : ℕ) → a < agents (now table) → rows (now table) a ≤ 32) × ((a i : ℕ) → a < agents (now table) → i < rows (now table) a → rowReplyAt (now table) a i ≡ 0) ⌝ }
+    ensures { λ r. ⌜ r ≡ tableClimbs (now (table .entry)) n ⌝ }
 {
     let m = agent_count(table) as usize;
-    let mut n = 1;
+    let mut line = n;
     let mut a = 0;
     while a < m {
         let c = row_count(table, a);
-        let told = rows_climb(table, n + 1, a, c as usize);
+        let told = rows_climb(table, line + 1, a, c as usize);
         if told.reply != ACCEPTED {
             return told;
         }
-        n += 1 + c;
+        line += 1 + c;
         a += 1;
     }
     Told {

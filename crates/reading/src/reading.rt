@@ -135,7 +135,7 @@ pub fn read(text: &[u8], table: &mut [u32]) -> Told
     if good.reply != ACCEPTED {
         return good;
     }
-    let climbing = table_climbs(&words);
+    let climbing = table_climbs(&words, 1);
     if climbing.reply != ACCEPTED {
         return climbing;
     }

@@ -1,6 +1,5 @@
 -- What the family of an op says of its number, and what a row's op says of its fields. Assumes nothing.
 use mathlib.Core.Path.{_≡_, refl, sym, subst, ap, _∙_}
-use mathlib.Core.Logic.{_⊎_, inl, inr}
 use mathlib.Core.Bool.{Bool, true, false, _&&_, _||_, cond, false≢true}
 use mathlib.Core.List.{List, [], _∷_}
 use Prim.Native.Nat.{ℕ, zero, suc, _≤_}
@@ -8,6 +7,7 @@ use native.Mathlib.Omega.{arith}
 use lib.Dec.{T, leb, eqb}
 use lib.ListN.{getD}
 use borrow.Author.Tests.{leb-true, eqb-true, ne-eqb}
+use Rattle.tables.proofs.Tests.{either}
 use Rattle.tables.proofs.Passed.{and-1, and-2, each}
 use Rattle.tables.specs.Family.{familyOf}
 use Rattle.tables.specs.Rows.{Names, namesOf, within, fieldsFit, wellFormed}
@@ -88,19 +88,6 @@ unknown-row r h =
 pub known-row : (r : Row) → wellFormed r ≡ true → familyOf (r .op) ≡ Unknown → ⊥
 known-row r w h = false≢true (sym (unknown-row r h) ∙ w)
 
-abbrev pub OneOfNine : ℕ → Type 0
-OneOfNine op = (op ≤ 0x04) ⊎ (((0x10 ≤ op) × (op ≤ 0x11)) ⊎ ((op ≡ 0x20) ⊎ (op ≡ 0x30)))
-
-pub one-of-nine : (r : Row) → wellFormed r ≡ true → OneOfNine (r .op)
-one-of-nine r w = go (familyOf (r .op)) refl
-  where
-    go : (f : Family) → familyOf (r .op) ≡ f → OneOfNine (r .op)
-    go Local h = inl (local-op (r .op) h)
-    go Move h = inr (inl (move-op (r .op) h))
-    go Send h = inr (inr (inl (send-op (r .op) h)))
-    go Receive h = inr (inr (inr (receive-op (r .op) h)))
-    go Unknown h = absurd (known-row r w h)
-
 -- ---- a row's fields by its op
 
 local-formed : (op : ℕ) (r : Row) → op ≤ 0x04 → (op ≡ 0 → ⊥) → formed op r ≡ fieldsFit r true true false false
@@ -150,20 +137,23 @@ unfolding within
 within-le true limit v h = leb-true v limit h
 within-le false limit v h = let e = eqb-true v 0 h in omega arith
 
-either : (b : Bool) (u v : Names) → u .n ≡ false → v .n ≡ false → cond b u v .n ≡ false
-either true u v h k = h
-either false u v h k = k
+-- the op is that of a row that only goes on at p+1: no SKIP, JUMP or RECV
+abbrev pub Plain : ℕ → Type 0
+Plain op = (op ≡ 0x10 → ⊥) × (op ≡ 0x11 → ⊥) × (op ≡ 0x30 → ⊥)
 
-no-n : (op : ℕ) → (op ≡ 0x10 → ⊥) → (op ≡ 0x11 → ⊥) → (op ≡ 0x30 → ⊥) → namesOf op .n ≡ false
+no-n : (op : ℕ) → Plain op → namesOf op .n ≡ false
 unfolding namesOf
-no-n op p q s =
-    rw (ne-eqb op 0x10 p, ne-eqb op 0x11 q, ne-eqb op 0x30 s)
-    (either (eqb op 0x00) _ _ refl
-    (either (eqb op 0x01) _ _ refl
-    (either (eqb op 0x02) _ _ refl
-    (either (eqb op 0x03) _ _ refl
-    (either (eqb op 0x04) _ _ refl
-    (either (eqb op 0x20) _ _ refl refl))))))
+no-n op p =
+    rw (ne-eqb op 0x10 (p .0), ne-eqb op 0x11 (p .1), ne-eqb op 0x30 (p .2))
+    (either unnamed (eqb op 0x00) _ _ refl
+    (either unnamed (eqb op 0x01) _ _ refl
+    (either unnamed (eqb op 0x02) _ _ refl
+    (either unnamed (eqb op 0x03) _ _ refl
+    (either unnamed (eqb op 0x04) _ _ refl
+    (either unnamed (eqb op 0x20) _ _ refl refl))))))
+  where
+    unnamed : Names → Type 0
+    unnamed u = u .n ≡ false
 
 module _ (r : Row) (w : wellFormed r ≡ true) where
   field-passes : (k : ℕ) → getD (fieldTests r) k true ≡ true
@@ -179,7 +169,7 @@ module _ (r : Row) (w : wellFormed r ≡ true) where
   pub n-range : r .n ≤ 31
   n-range = within-le (namesOf (r .op) .n) 31 (r .n) (field-passes 2)
 
-  -- a row that is no SKIP, JUMP or RECV does not name n, which is 0
-  pub n-unnamed : (r .op ≡ 0x10 → ⊥) → (r .op ≡ 0x11 → ⊥) → (r .op ≡ 0x30 → ⊥) → r .n ≡ 0
+  -- such a row does not name n, which is 0
+  pub n-unnamed : Plain (r .op) → r .n ≡ 0
   unfolding within
-  n-unnamed p q s = eqb-true (r .n) 0 (subst (λ (b : Bool). within b 31 (r .n) ≡ true) (no-n (r .op) p q s) (field-passes 2))
+  n-unnamed p = eqb-true (r .n) 0 (subst (λ (b : Bool). within b 31 (r .n) ≡ true) (no-n (r .op) p) (field-passes 2))

@@ -1,5 +1,5 @@
--- What an accepted table is, fact by fact, and that these facts make one: what the executive and the reader use, so that neither opens
--- the table rule. Assumes nothing.
+-- What an accepted table is, fact by fact, `TableFacts` and with rule 7 `Climbing`, and that both make one: what the executive and the reader use, so that
+-- neither opens the table rule. Assumes nothing.
 use mathlib.Core.Path.{_≡_, refl, sym}
 use mathlib.Core.Bool.{Bool, true, false}
 use mathlib.Core.List.{List}
@@ -12,9 +12,8 @@ use Rattle.tables.proofs.Passed.{and-1, and-2, each, every-go, every-no
 use Rattle.tables.proofs.Tests.{not-t}
 use Rattle.tables.proofs.Zeros.{zero-at, zero-all}
 use Rattle.tables.proofs.RowReplies.{RowFits, row-fits}
-use Rattle.tables.proofs.Loops.{rowPasses, row-passes as row-good}
+use Rattle.tables.proofs.Loops.{rowPasses, row-good}
 use Rattle.tables.proofs.Onward.{climbs-on}
-use Rattle.tables.proofs.Families.{OneOfNine, one-of-nine, x-range, y-range, n-range}
 use Rattle.tables.specs.Basics.{OneOf}
 use Rattle.tables.specs.Layout.{agents, rows, row, rowPlace, startPlace, tableWords}
 use Rattle.tables.specs.Rows.{wellFormed, goesOnTo}
@@ -92,9 +91,9 @@ module _ (tb : List ℕ) where
     agent-climbs : (i : ℕ) → i < rows tb a → climbs tb a i ≡ true
     agent-climbs i l = and-2 (eqb (rowReplyAt tb a i) 0) (climbs tb a i) (row-passed i l)
 
-  pub table-climbs : goodTable tb ≡ true → Climbing tb
+  pub good-climbs : goodTable tb ≡ true → Climbing tb
   unfolding goodTable
-  table-climbs good a i h l = agent-climbs a (below (agents tb) (goodAgent tb) (each _ good 2) a h) i l
+  good-climbs good a i h l = agent-climbs a (below (agents tb) (goodAgent tb) (each _ good 2) a h) i l
 
   pub table-facts : goodTable tb ≡ true → TableFacts tb
   unfolding goodTable
@@ -155,18 +154,6 @@ module _ (tb : List ℕ) (good : goodTable tb ≡ true) where
       pub formed : wellFormed (row tb a i) ≡ true
       formed = fits .formed
 
-      pub op-known : OneOfNine (row tb a i .op)
-      op-known = one-of-nine (row tb a i) formed
-
-      pub x-fits : row tb a i .x ≤ 3
-      x-fits = x-range (row tb a i) formed
-
-      pub y-fits : row tb a i .y ≤ 3
-      y-fits = y-range (row tb a i) formed
-
-      pub n-fits : row tb a i .n ≤ 31
-      n-fits = n-range (row tb a i) formed
-
       pub target : i + 1 + row tb a i .n ≤ rows tb a
       target = fits .target
 
@@ -179,7 +166,7 @@ module _ (tb : List ℕ) (good : goodTable tb ≡ true) where
       -- a row that it can go on to has no earlier window
       pub window-on : (j : ℕ) → OneOf j (goesOnTo (row tb a i) i) → j < rows tb a
           → (row tb a i .early ≤ row tb a j .early) × (row tb a i .late ≤ row tb a j .late)
-      window-on = climbs-on tb a i (table-climbs tb good a i h l)
+      window-on = climbs-on tb a i (good-climbs tb good a i h l)
 
 -- ---- reply 0 of `check`
 

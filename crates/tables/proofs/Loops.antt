@@ -26,8 +26,8 @@ module _ (tb : List ℕ) (a : ℕ) where
   abbrev pub rowPasses : ℕ → Bool
   rowPasses i = eqb (rowReplyAt tb a i) 0 && climbs tb a i
 
-  pub row-passes : (i : ℕ) → rowReplyAt tb a i ≡ 0 → climbs tb a i ≡ true → rowPasses i ≡ true
-  row-passes i h k = and-both (eqb (rowReplyAt tb a i) 0) (climbs tb a i) (eq-eqb (rowReplyAt tb a i) 0 h) k
+  pub row-good : (i : ℕ) → rowReplyAt tb a i ≡ 0 → climbs tb a i ≡ true → rowPasses i ≡ true
+  row-good i h k = and-both (eqb (rowReplyAt tb a i) 0) (climbs tb a i) (eq-eqb (rowReplyAt tb a i) 0 h) k
 
   module _ (i : ℕ) (l : i < rows tb a) where
     stops : rowPasses i ≡ false → false ≡ goodRows tb a

@@ -6,7 +6,6 @@ use native.Mathlib.Omega.{arith}
 use lib.Dec.{eqb}
 use lib.Bits.{bitAnd, and-mask, and-high, and-zero-r}
 use borrow.Author.Tests.{leb-true, le-leb, eqb-true, eqb-false, eq-eqb}
-use Rattle.tables.proofs.Tests.{or-left}
 use Rattle.tables.proofs.Passed.{each, every-go, every-last}
 use Rattle.tables.proofs.Blocks.{block-and}
 use Rattle.tables.specs.Layout.{rowOf}
@@ -36,6 +35,7 @@ module _ (v : ℕ) (byte : v < 256) where
   spares limit above h k true = record { none = λ e. h (leb-true v limit e); fits = λ e. le-leb v limit (k e) }
   spares limit above h k false = record { none = λ e. all-bits ∙ eqb-true v 0 e; fits = λ e. eq-eqb v 0 (sym all-bits ∙ e) }
 
+  -- `omega` reads the powers as numerals alone
   spares-3 : (named : Bool) → Spares named 3 252 v
   spares-3 = let e : bitAnd v 252 ≡ v / 4 % 64 * 4 = and-high v 6 2 in let q : v / 4 ≤ 63 = omega arith in let m : v / 4 % 64 ≡ v / 4 = omega arith in spares 3 252 (λ h. omega arith) (λ h. omega arith)
 
@@ -90,10 +90,10 @@ module _ (code k early late : ℕ) (x y n : Bool) where
             absurd (e (omega arith))
         go false h = refl
 
-    -- a row whose k is free
-    pub by-bits : free ≡ true → eqb (bitAnd code (spareOf x y n)) 0 ≡ fieldsFit (rowOf code k early late) x y n free
-    by-bits f = go (eqb (bitAnd code (spareOf x y n)) 0) refl
-      where
-        go : (b : Bool) → eqb (bitAnd code (spareOf x y n)) 0 ≡ b → b ≡ fieldsFit (rowOf code k early late) x y n free
-        go true h = sym (or-left free (eqb k 0) f) ∙ none-spare (eqb-true _ 0 h)
-        go false h = some-spare (eqb-false _ 0 h)
+  -- a row whose k is free
+  pub by-bits : eqb (bitAnd code (spareOf x y n)) 0 ≡ fieldsFit (rowOf code k early late) x y n true
+  by-bits = go (eqb (bitAnd code (spareOf x y n)) 0) refl
+    where
+      go : (b : Bool) → eqb (bitAnd code (spareOf x y n)) 0 ≡ b → b ≡ fieldsFit (rowOf code k early late) x y n true
+      go true h = none-spare true (eqb-true _ 0 h)
+      go false h = some-spare true (eqb-false _ 0 h)

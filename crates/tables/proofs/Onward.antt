@@ -1,6 +1,6 @@
 -- The rows that a row can go on to: where they stand, rule 7 by the two that there are at most, and what it says of each. Assumes nothing.
 use mathlib.Core.Path.{_≡_, refl, sym, ap, _∙_}
-use mathlib.Core.Logic.{inl, inr}
+use mathlib.Core.Logic.{_⊎_, inl, inr}
 use mathlib.Core.Bool.{Bool, true, false, _&&_, cond}
 use mathlib.Core.List.{List, [], _∷_, map}
 use Prim.Native.Nat.{ℕ, _+_, _≤_, _<_}
@@ -9,7 +9,7 @@ use lib.Dec.{leb, eqb}
 use borrow.Author.Tests.{leb-true, le-leb, lt-leb, eqb-true, eqb-false}
 use Rattle.tables.proofs.Tests.{or-left, and-left}
 use Rattle.tables.proofs.Passed.{and-1, and-2, every-go, every-stop, every-last}
-use Rattle.tables.proofs.Families.{n-unnamed}
+use Rattle.tables.proofs.Families.{Plain, n-unnamed}
 use Rattle.tables.proofs.RowReplies.{passed-formed}
 use Rattle.tables.specs.Basics.{OneOf, every}
 use Rattle.tables.specs.Layout.{rows, row}
@@ -22,10 +22,10 @@ use Rattle.tables.specs.declared.Row.{Row}
 module _ (r : Row) (p : ℕ) where
   pub data Onward : List ℕ → Type 0 where
     -- SKIP and RECV
-    both : (r .op ≡ 0x11 → ⊥) → Onward ((p + 1) ∷ (p + 1 + r .n) ∷ [])
+    both : (r .op ≡ 0x10) ⊎ (r .op ≡ 0x30) → Onward ((p + 1) ∷ (p + 1 + r .n) ∷ [])
     -- JUMP
     far : r .op ≡ 0x11 → Onward ((p + 1 + r .n) ∷ [])
-    near : (r .op ≡ 0x10 → ⊥) → (r .op ≡ 0x11 → ⊥) → (r .op ≡ 0x30 → ⊥) → Onward ((p + 1) ∷ [])
+    near : Plain (r .op) → Onward ((p + 1) ∷ [])
 
   pub onward : Onward (goesOnTo r p)
   unfolding goesOnTo
@@ -33,10 +33,15 @@ module _ (r : Row) (p : ℕ) where
     where
       go : (s j v : Bool) → eqb (r .op) 0x10 ≡ s → eqb (r .op) 0x11 ≡ j → eqb (r .op) 0x30 ≡ v
           → Onward (cond s ((p + 1) ∷ (p + 1 + r .n) ∷ []) (cond j ((p + 1 + r .n) ∷ []) (cond v ((p + 1) ∷ (p + 1 + r .n) ∷ []) ((p + 1) ∷ []))))
-      go true j v hs hj hv = both (λ e. let q = eqb-true (r .op) 0x10 hs in omega arith)
+      go true j v hs hj hv = both (inl (eqb-true (r .op) 0x10 hs))
       go false true v hs hj hv = far (eqb-true (r .op) 0x11 hj)
-      go false false true hs hj hv = both (eqb-false (r .op) 0x11 hj)
-      go false false false hs hj hv = near (eqb-false (r .op) 0x10 hs) (eqb-false (r .op) 0x11 hj) (eqb-false (r .op) 0x30 hv)
+      go false false true hs hj hv = both (inr (eqb-true (r .op) 0x30 hv))
+      go false false false hs hj hv = near (eqb-false (r .op) 0x10 hs, eqb-false (r .op) 0x11 hj, eqb-false (r .op) 0x30 hv)
+
+-- a SKIP or a RECV is no JUMP
+no-jump : (op : ℕ) → (op ≡ 0x10) ⊎ (op ≡ 0x30) → op ≡ 0x11 → ⊥
+no-jump op (inl e) j = omega arith
+no-jump op (inr e) j = omega arith
 
 -- a row goes on to a later one, p+1+n at the farthest
 pub rises : (r : Row) (p j : ℕ) → OneOf j (goesOnTo r p) → (p < j) × (j ≤ p + 1 + r .n)
@@ -46,7 +51,7 @@ rises r p j one = go (goesOnTo r p) (onward r p) one
     go js (both o) (inl e) = (omega arith, omega arith)
     go js (both o) (inr (inl e)) = (omega arith, omega arith)
     go js (far o) (inl e) = (omega arith, omega arith)
-    go js (near s o v) (inl e) = (omega arith, omega arith)
+    go js (near o) (inl e) = (omega arith, omega arith)
 
 -- ---- rule 7
 
@@ -76,9 +81,9 @@ module _ (tb : List ℕ) (a i : ℕ) where
     unfolding notAbove
     by-late h = ap (λ (b : Bool). b && leb (row tb a i .late) (row tb a j .late)) (sym (le-leb (row tb a i .early) (row tb a j .early) h)) ∙ to-row
 
-    window-on : climbsTo tb a i j ≡ true → (row tb a i .early ≤ row tb a j .early) × (row tb a i .late ≤ row tb a j .late)
+    both-up : climbsTo tb a i j ≡ true → (row tb a i .early ≤ row tb a j .early) × (row tb a i .late ≤ row tb a j .late)
     unfolding notAbove
-    window-on h =
+    both-up h =
         let n = to-row ∙ h in
         let e = leb (row tb a i .early) (row tb a j .early) in
         let l = leb (row tb a i .late) (row tb a j .late) in
@@ -88,7 +93,7 @@ module _ (tb : List ℕ) (a i : ℕ) where
   pub climbs-on : climbs tb a i ≡ true → (j : ℕ) → OneOf j (goesOnTo (row tb a i) i) → j < rows tb a
       → (row tb a i .early ≤ row tb a j .early) × (row tb a i .late ≤ row tb a j .late)
   unfolding climbs
-  climbs-on h j one l = window-on j l (each-of (climbsTo tb a i) (goesOnTo (row tb a i) i) h j one)
+  climbs-on h j one l = both-up j l (each-of (climbsTo tb a i) (goesOnTo (row tb a i) i) h j one)
 
   -- ---- by the two rows that there are at most, of the row that was read
 
@@ -114,12 +119,12 @@ module _ (tb : List ℕ) (a i : ℕ) where
         of : (js : List ℕ) → Onward r i js → to (i + 1) ≡ every (map to js)
         of js (both o) = twice (to (i + 1)) refl
         of js (far o) = same ∙ every-last _
-        of js (near s o v) = every-last _
+        of js (near o) = every-last _
 
     -- n is not: there is the row at p+1+n, and only a JUMP has no other
     module _ (formed : rowReplyAt tb a i ≡ 0) (some : r .n ≡ 0 → ⊥) where
-      unnamed : (r .op ≡ 0x10 → ⊥) → (r .op ≡ 0x11 → ⊥) → (r .op ≡ 0x30 → ⊥) → ⊥
-      unnamed s o v = some (n-unnamed r (ap wellFormed read ∙ passed-formed tb a i formed) s o v)
+      unnamed : Plain (r .op) → ⊥
+      unnamed o = some (n-unnamed r (ap wellFormed read ∙ passed-formed tb a i formed) o)
 
       pub far-back : to (i + 1 + r .n) ≡ false → false ≡ climbs tb a i
       far-back h = of (goesOnTo r i) (onward r i) ∙ by-rows
@@ -131,16 +136,16 @@ module _ (tb : List ℕ) (a i : ℕ) where
           of : (js : List ℕ) → Onward r i js → false ≡ every (map to js)
           of js (both o) = second (to (i + 1)) refl
           of js (far o) = every-stop _ _ h
-          of js (near s o v) = absurd (unnamed s o v)
+          of js (near o) = absurd (unnamed o)
 
       module _ (on : to (i + 1 + r .n) ≡ true) where
         pub jump-on : r .op ≡ 0x11 → true ≡ climbs tb a i
         jump-on e = of (goesOnTo r i) (onward r i) ∙ by-rows
           where
             of : (js : List ℕ) → Onward r i js → true ≡ every (map to js)
-            of js (both o) = absurd (o e)
+            of js (both o) = absurd (no-jump (r .op) o e)
             of js (far o) = sym on ∙ every-last _
-            of js (near s o v) = absurd (o e)
+            of js (near o) = absurd (o .1 e)
 
         pub both-on : (r .op ≡ 0x11 → ⊥) → to (i + 1) ≡ climbs tb a i
         both-on e = of (goesOnTo r i) (onward r i) ∙ by-rows
@@ -152,4 +157,4 @@ module _ (tb : List ℕ) (a i : ℕ) where
             of : (js : List ℕ) → Onward r i js → to (i + 1) ≡ every (map to js)
             of js (both o) = first-on (to (i + 1)) refl
             of js (far o) = absurd (e o)
-            of js (near s o v) = every-last _
+            of js (near o) = every-last _

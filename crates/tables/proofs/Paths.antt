@@ -1,31 +1,23 @@
--- Along a path of rows positions rise, and early and late do not fall. Assumes nothing.
-use mathlib.Core.Path.{_≡_}
-use mathlib.Core.Bool.{true}
-use mathlib.Core.List.{List}
+-- What no step lowers no path lowers; so along a path of rows early and late do not fall. Assumes nothing.
 use Prim.Native.Nat.{ℕ, _≤_, _<_}
 use native.Mathlib.Omega.{arith}
-use Rattle.tables.specs.Layout.{agents, rows, row}
-use Rattle.tables.specs.Table.{goodTable}
-use Rattle.tables.specs.Paths.{Path, here, on, WindowsClimb, EarlierIsPast}
-use Rattle.tables.proofs.Onward.{rises}
+use Rattle.tables.specs.Layout.{rows, row}
+use Rattle.tables.specs.Paths.{Path, here, on, WindowsClimb}
 use Rattle.tables.proofs.Good.{window-on}
 
-pub path-rises : {tb : List ℕ} {a i k : ℕ} → Path tb a i k → i ≤ k
-path-rises here = omega arith
-path-rises (on {i} {j} g p) = let l = path-rises p in omega (arith, rises _ i j g)
+-- steps begin at a real place, and do not lower f where they come to one
+module _ {A : Type 0} {Goes : A → A → Type 0} (Real : A → Type 0) (f : A → ℕ) (begins : (x y : A) → Goes x y → Real x)
+    (up : (x y : A) → Goes x y → Real y → f x ≤ f y) where
+  real-before : {x z : A} → Path Goes x z → Real z → Real x
+  real-before here r = r
+  real-before (on {x} {y} g p) r = begins x y g
 
-module _ (tb : List ℕ) (good : goodTable tb ≡ true) (a : ℕ) (h : a < agents tb) where
-  climb : {i k : ℕ} → Path tb a i k → k < rows tb a → (row tb a i .early ≤ row tb a k .early) × (row tb a i .late ≤ row tb a k .late)
-  climb here l = (omega arith, omega arith)
-  climb (on {i} {j} g p) l =
-      let (e, m) = climb p l in
-      let r = rises _ i j g in
-      let q = path-rises p in
-      let (f, n) = window-on tb good a h i (omega arith) j g (omega arith) in
-      (omega arith, omega arith)
+  pub never-lower : {x z : A} → Path Goes x z → Real z → f x ≤ f z
+  never-lower here r = omega arith
+  never-lower (on {x} {y} g p) r = let u = up x y g (real-before p r) in let l = never-lower p r in omega arith
 
 pub windows-climb : WindowsClimb
-windows-climb tb good a h i k p l = climb tb good a h p l
-
-pub earlier-is-past : EarlierIsPast
-earlier-is-past tb good a h i k l m p = let (e, n) = climb tb good a h p l in omega arith
+windows-climb tb good a h i k p l = (
+  never-lower (λ j. j < rows tb a) (λ j. row tb a j .early) (λ i j g. g .0) (λ i j g m. window-on tb good a h i (g .0) j (g .1) m .0) p l,
+  never-lower (λ j. j < rows tb a) (λ j. row tb a j .late) (λ i j g. g .0) (λ i j g m. window-on tb good a h i (g .0) j (g .1) m .1) p l,
+)

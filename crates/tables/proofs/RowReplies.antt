@@ -1,5 +1,5 @@
 -- A row's reply from the facts of the row, and the facts of a row that is accepted. Assumes nothing.
-use mathlib.Core.Path.{_≡_, sym}
+use mathlib.Core.Path.{_≡_}
 use mathlib.Core.Bool.{true, false}
 use mathlib.Core.List.{List}
 use Prim.Native.Nat.{ℕ, _+_, _-_, _≤_, _<_}
@@ -63,7 +63,3 @@ row-fits r i c h =
 pub passed-formed : (tb : List ℕ) (a i : ℕ) → rowReplyAt tb a i ≡ 0 → wellFormed (row tb a i) ≡ true
 unfolding rowReplyAt
 passed-formed tb a i h = row-fits (row tb a i) i (rows tb a) h .formed
-
--- and back
-pub row-accepted : (r : Row) (i c : ℕ) → RowFits r i c → rowReply r i c ≡ 0
-row-accepted r i c f = sym (accepted r i c (f .formed) (f .target) (f .window) (f .bound))

@@ -1,4 +1,4 @@
--- The table's words break no rule of 01: what reply 8 denies. Assumes nothing.
+-- The table's words break no rule of 01, as 02's T-03 leaves them: what reply 8 denies. Assumes nothing.
 use mathlib.Core.Bool.{Bool, _&&_, _||_}
 use mathlib.Core.List.{List, [], _∷_, map}
 use Prim.Native.Nat.{ℕ, _+_}

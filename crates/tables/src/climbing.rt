@@ -23,7 +23,7 @@ fn climbs_to(table: &[u32], a: usize, i: usize, j: usize, c: usize) -> bool
     r.late <= next.late
 }
 
-// Whether row i of agent a, one of its c rows, which has passed 4 to 6, goes on to no earlier window. Where a row does not branch its n is 0.
+// Whether row i of agent a, one of its c rows, which has passed 4 to 6, goes on to no earlier window. A row that is no SKIP, JUMP or RECV has n 0.
 pub fn row_climbs(table: &[u32], a: usize, i: usize, c: usize) -> bool
     requires { ⌜ (tableWords ≤ length (now table)) × (a < 16) × (c ≡ rows (now table) a) × (c ≤ 32) × (i < c) × (rowReplyAt (now table) a i ≡ 0) ⌝ }
     ensures { λ q. ⌜ q ≡ climbs (now (table .entry)) a i ⌝ }

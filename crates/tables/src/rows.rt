@@ -15,10 +15,12 @@ ghost use Rattle.tables.specs.Family.{familyOf};
 ghost use Rattle.tables.specs.Rows.{wellFormed, rowReply};
 ghost use Rattle.tables.specs.Table.{rowReplyAt};
 
-// The op of a JUMP, the one row that goes on at p+1+n alone.
+// The ops of the two rows that move: where a SKIP goes on depends on a register, a JUMP always goes on at p+1+n.
+const SKIP: u32 = 0x10;
+
 pub const JUMP: u32 = 0x11;
 
-// The family that an op is in: the one place where an op's number is matched.
+// The family that an op is in: the one place where the ops are told apart by number.
 pub fn family_of(op: u32) -> Family
     ensures { λ r. ⌜ r ≡ familyOf op ⌝ }
 {
@@ -55,7 +57,7 @@ pub fn row_at(table: &[u32], a: usize, i: usize) -> Row
     row_of(table[p], table[p + 1], table[p + 2], table[p + 3])
 }
 
-// The bits of a code word that must be 0, by the fields that its row names: x and y are at most 3, n is at most 31, and those not named are 0.
+// The bits of a code word, below the op, that must be 0, by the fields that its row names: x and y are at most 3, n is at most 31, and those not named are 0.
 const ALL_BUT_X: u32 = 0x00FC_FFFF;
 
 const ALL_BUT_X_Y: u32 = 0x00FC_FCFF;
@@ -81,7 +83,7 @@ fn is_well_formed(code: u32, k: u32) -> bool
             return k == 0;
         }
         Family::Move => {
-            if op == 0x10 {
+            if op == SKIP {
                 if code & ALL_BUT_X_N != 0 {
                     return false;
                 }

@@ -6,8 +6,8 @@ use lib.Dec.{T, eqb}
 use lib.Count.{onesIn, trailingZeros}
 use Rattle.tables.specs.Basics.{first, every, allBelow, allZero, zeroFrom}
 use Rattle.tables.specs.Layout.{rowOf}
-use Rattle.tables.specs.Table.{climbsTo, climbs}
 use Rattle.tables.specs.Rows.{rowReply, wellFormed, fieldsFit, namesOf, within, goesOnTo, notAbove}
+use Rattle.tables.specs.Table.{climbsTo, climbs}
 use Rattle.tables.specs.Lines.{lines, same, hexDigit, allHex, number, field, digitsLine, newline}
 use Rattle.tables.specs.Faults.{faultReply, judgedReply, onlyDigits, beginsWith, judgeKind, judge}
 use Rattle.tables.specs.Frames.{frameOf, framesOf, fourWords}
@@ -31,7 +31,7 @@ sends = hexLine 36 0x010020000000000000070000000100000003
 
 -- the trace of this input is this output
 gives : (input output : List ℕ) → Bool
-unfolding first every same startWords choiceReply stuck canGo inTime unfinished accepted withAgent withSent after receive best lookAgents lookRows look visible beats rowReply goesOnTo notAbove wellFormed fieldsFit namesOf within rowOf zeroFrom allZero allBelow readInto framesInto framesReply framesOf frameOf fourWords judge judgeKind onlyDigits beginsWith faultReply digitsLine allHex field number hexDigit lines inPlace rowsGood rowsClimb firstTold agentsClimb tableClimbs rowsNext loaded tableOf onesIn trailingZeros tableBytes tableText choiceLines badChoice badChoiceOf choicesIn hexChar hexDigits hexWords stepLine lastLine traceFrom traceChoices refusedOr traceOf climbs climbsTo
+unfolding first every same startWords choiceReply stuck canGo inTime unfinished accepted withAgent withSent after receive best lookAgents lookRows look visible beats rowReply goesOnTo notAbove wellFormed fieldsFit namesOf within rowOf zeroFrom allZero allBelow readInto framesInto framesReply framesOf frameOf fourWords judge judgeKind onlyDigits beginsWith faultReply digitsLine allHex field number hexDigit lines inPlace rowsGood rowsClimb climbs climbsTo firstTold agentsClimb tableClimbs rowsNext loaded tableOf onesIn trailingZeros tableBytes tableText choiceLines badChoice badChoiceOf choicesIn hexChar hexDigits hexWords stepLine lastLine traceFrom traceChoices refusedOr traceOf
 gives input output = same (traceOf input .bytes) output
 
 cases : T (every (

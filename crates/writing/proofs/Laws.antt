@@ -15,26 +15,27 @@ use Rattle.tables.specs.Frames.{Frame, framesOf}
 use Rattle.tables.specs.Table.{goodTable}
 use Rattle.tables.specs.Calls.{checkReply}
 use Rattle.tables.proofs.Newlines.{joined-lines}
-use Rattle.tables.proofs.Good.{few, table-facts, table-climbs, checked-good}
+use Rattle.tables.proofs.Good.{few, table-facts, good-climbs, checked-good}
 use Rattle.tables.proofs.Small.{small-nil, small-cons}
 use Rattle.reading.specs.Reader.{told, inPlace, rowsGood, tableClimbs, framesReply, tableOf}
 use Rattle.reading.specs.declared.Told.{Told}
 use Rattle.reading.specs.Calls.{ReadOutcome, readOutcome, readInto}
 use Rattle.reading.proofs.Accepted.{placed-first}
-use Rattle.reading.proofs.Outcomes.{accepted-placed, accepted-read, rows-passed, read-accepted, blank, blank-length}
+use Rattle.reading.proofs.Outcomes.{accepted-placed, accepted-read, all-passed, read-accepted, blank, blank-length}
 use Rattle.reading.proofs.Climbs.{climbing-told}
 use Rattle.reading.proofs.ReadGood.{frames-four, table-length, rows-facts}
 use Rattle.reading.proofs.ReadSmall.{words-small}
 use Rattle.reading.proofs.Laws.{read-is-checked}
 use Rattle.writing.specs.Writer.{fourAt, linesOf, rowsFrom, agentsFrom, framesIn, textOf}
 use Rattle.writing.specs.Calls.{WriteOutcome, wrote, writeOutcome, writeInto}
-use Rattle.writing.specs.Laws.{bytesWritten, WrittenIsRead, ReadIsWritten, Accepted, ReadFrom, AcceptedAreRead, LengthOfTable, RoomIsEnough, LengthBounds}
+use Rattle.writing.specs.Laws.{bytesWritten, WrittenIsRead, ReadIsWritten, Accepted, ReadFrom, AcceptedAreRead, LengthOfTable, RoomIsEnough, LengthBounds, linesClimb, SevenTellsItsLine}
 use Rattle.writing.proofs.Lengths.{text-length, length-within}
 use Rattle.writing.proofs.Outcomes.{checked-words, too-long, all-written}
 use Rattle.writing.proofs.FrameLines.{AllPlainFrames, frames-back, text-back}
 use Rattle.writing.proofs.Loaded.{table-frames}
 use Rattle.writing.proofs.Accepts.{frames-placed, frames-pass}
 use Rattle.writing.proofs.SameFrames.{same-words}
+use Rattle.writing.proofs.LinesClimb.{frames-lines}
 
 -- ---- the text of a table is read to its words
 
@@ -73,7 +74,7 @@ module _ (tb : List ℕ) (long : length tb ≡ tableWords) (small : Small tb) (g
   -- so what is told of its windows is told of the table's
   reply-read : told 0 0 ≡ framesReply (framesOf (textOf tb))
   reply-read =
-      sym (rows-passed (framesOf (textOf tb)) placed passed ∙ ap tableClimbs words-read ∙ climbing-told tb (table-climbs tb good))
+      sym (climbing-told tb 1 (good-climbs tb good)) ∙ ap (λ (words : List ℕ). tableClimbs words 1) (sym words-read) ∙ all-passed (framesOf (textOf tb)) placed passed
 
   text-read : (lent : List ℕ) → tableWords ≤ length lent → readInto (textOf tb) lent ≡ readOutcome (told 0 0) (tb ++ drop tableWords lent)
   text-read lent room = sym (read-accepted (textOf tb) lent room (told 0 0) reply-read refl tb (sym words-read))
@@ -134,6 +135,14 @@ accepted-are-read tb = (there, back)
           subst Small (sym e) (words-small (r .text) (q .0)),
           ap (λ (o : ReadOutcome). checkReply (o .table)) (sym (r .reads)) ∙ read-is-checked (r .text) blank (ap (λ (o : ReadOutcome). o .told .reply) (r .reads)),
         )
+
+-- ---- the line that 7 tells
+
+pub seven-tells-its-line : SevenTellsItsLine
+unfolding framesOf
+seven-tells-its-line text placed =
+    let fs = framesOf text in
+    frames-lines (tableOf fs) 1 ∙ ap (linesClimb (tableOf fs) 1 0 0) (table-frames fs (frames-four (lines text)) placed)
 
 -- ---- how long a text is
 

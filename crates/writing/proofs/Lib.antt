@@ -7,4 +7,5 @@ pub mod Counts
 pub mod Loaded
 pub mod Accepts
 pub mod SameFrames
+pub mod LinesClimb
 pub mod Laws

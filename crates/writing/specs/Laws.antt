@@ -1,13 +1,17 @@
--- What `write` and `read` are to each other, and how long a table's text is. proofs/Laws.antt proves each. Assumes nothing.
+-- What `write` and `read` are to each other, how long a table's text is, and which line 7 tells. proofs/Laws.antt proves each. Assumes nothing.
 use mathlib.Core.Path.{_≡_}
-use mathlib.Core.List.{List, _++_}
+use mathlib.Core.Bool.{true, false}
+use mathlib.Core.List.{List, [], _∷_, _++_}
 use mathlib.Core.Logic.{_↔_}
-use Prim.Native.Nat.{ℕ, zero, suc, _+_, _*_, _≤_}
+use Prim.Native.Nat.{ℕ, zero, suc, _+_, _-_, _*_, _≤_}
 use lib.ListN.{length, take, drop, replicate}
 use Rattle.tables.specs.Small.{Small}
 use Rattle.tables.specs.Layout.{agents, rows, tableWords}
+use Rattle.tables.specs.Table.{climbs}
+use Rattle.tables.specs.Frames.{Frame, opens, gives, ends, malformed, framesOf}
 use Rattle.tables.specs.Calls.{checkReply}
-use Rattle.reading.specs.Reader.{told}
+use Rattle.reading.specs.Reader.{told, inPlace, tableOf, tableClimbs}
+use Rattle.reading.specs.declared.Told.{Told}
 use Rattle.reading.specs.Calls.{readOutcome, readInto}
 use Rattle.writing.specs.Calls.{wrote, writeOutcome, writeInto}
 
@@ -65,3 +69,18 @@ pub record ReadFrom (tb : List ℕ) : Type 0 where
 -- The words that `check` accepts are exactly those that some text reads to.
 abbrev pub AcceptedAreRead : Type 0
 AcceptedAreRead = (tb : List ℕ) → Accepted tb ↔ ReadFrom tb
+
+-- ---- the line that 7 tells
+
+-- 7 over the lines of a text, one by one: line n is next, after a agents of which the last has i rows so far, and tb has the words of all
+unfoldable pub linesClimb : (tb : List ℕ) (n a i : ℕ) → List Frame → Told
+linesClimb tb n a i [] = told 0 0
+linesClimb tb n a i (opens b ws ∷ fs) = linesClimb tb (n + 1) (a + 1) 0 fs
+linesClimb tb n a i (gives b ws ∷ fs) = elim (climbs tb (a - 1) i) [ true ↦ linesClimb tb (n + 1) a (i + 1) fs | false ↦ told 7 n ]
+linesClimb tb n a i (ends ∷ fs) = told 0 0
+linesClimb tb n a i (malformed w ∷ fs) = told 0 0
+
+-- `read` counts the lines by the row counts; the line that it tells is the one that gave the row, and no line before it gave one that goes on to an earlier window.
+abbrev pub SevenTellsItsLine : Type 0
+SevenTellsItsLine = (text : List ℕ) → inPlace 1 0 0 (framesOf text) .reply ≡ 0
+    → tableClimbs (tableOf (framesOf text)) 1 ≡ linesClimb (tableOf (framesOf text)) 1 0 0 (framesOf text)

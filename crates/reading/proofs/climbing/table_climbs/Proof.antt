@@ -1,22 +1,20 @@
 -- `table_climbs` meets its contract. The loop holds what is left to be told, of the agents from agent a on, and that the lines can be counted. Assumes nothing.
 use borrow.Author.Needs.{needs}
-use mathlib.Core.Path.{_≡_, sym, ap, subst, _∙_}
-use Prim.Native.Nat.{ℕ, _+_, _*_, _≤_, _<_, _-_}
+use Prim.Native.Nat.{_+_, _*_, _≤_, _<_, _-_}
 use native.Mathlib.Omega.{arith}
-use Rattle.tables.specs.Layout.{agents, rows}
-use Rattle.reading.specs.Reader.{rowsClimb}
+use Rattle.tables.specs.Layout.{agents}
 use Rattle.reading.proofs.Climbs.{AgentsLeft, first-agent, next-agent, agent-back, no-agent}
 use Rattle.reading.proofs.climbing.table_climbs.Statement.{statement}
 use Rattle.reading.proofs.climbing.table_climbs.Tie as tie
 
 abbrev Inv-loop : tie.InvT-loop
-Inv-loop table m n₀ a₀ n a = AgentsLeft table n a × (a ≤ m) × (n ≤ 33 * a + 1)
+Inv-loop table n m line₀ a₀ line a = AgentsLeft table n line a × (a ≤ m) × (line ≤ n + 33 * a)
 
 abbrev μ-loop : tie.MeasureT-loop
-μ-loop table m n₀ a₀ n a = m - a
+μ-loop table n m line₀ a₀ line a = m - a
 
 loop-holds : tie.Need-loop-holds Inv-loop μ-loop
-loop-holds c = (first-agent _, omega arith, omega arith)
+loop-holds c = (first-agent _ _, omega arith, omega arith)
 
 -- agent a is one of the table's
 real : (c : tie.In-loop Inv-loop μ-loop) → c .before .loop .a < agents (c .before .before .before .before .args .table .now)
@@ -24,32 +22,19 @@ real c = let e = c .before .before .agent-count .ensures in let l = c .loop-test
 
 -- so it has 32 rows at most
 few : (c : tie.After-row-count Inv-loop μ-loop) → c .row-count .result ≤ 32
-few c = let e = c .row-count .ensures in omega (arith, c .before .before .before .before .before .pre .2 _ (real (c .before)))
-
--- its rows begin in the line after
-its : (c : tie.After-rows-climb Inv-loop μ-loop)
-    → let g = c .before .before .before .before .before .before .args in
-    let l = c .before .before .before .loop in
-    c .rows-climb .result ≡ rowsClimb (g .table .now) (l .n + 1) (l .a) 0 (rows (g .table .now) (l .a))
-its c =
-    let g = c .before .before .before .before .before .before .args in
-    let l = c .before .before .before .loop in
-    c .rows-climb .ensures ∙ ap (rowsClimb (g .table .now) (l .n + 1) (l .a) 0) (c .before .row-count .ensures)
+few c = let e = c .row-count .ensures in omega (arith, c .before .before .before .before .before .pre .3 _ (real (c .before)))
 
 returns : tie.Need-returns Inv-loop μ-loop
 returns c =
     let t = c .before .before in
-    agent-back _ _ _ (t .before .before .before .loop .inv .0) (real (t .before .before)) _ (its t) (c .if1 .taken)
+    agent-back _ _ _ _ _ (t .before .before .before .loop .inv .0) (real (t .before .before)) (t .before .row-count .ensures) _ (t .rows-climb .ensures) (c .if1 .taken)
 
 loop-again : tie.Need-loop-again Inv-loop μ-loop
 loop-again c =
     let t = c .before .before in
-    let l = t .before .before .before .loop in
-    let g = t .before .before .before .before .before .before .args in
-    let r = few (t .before) in
-    let i = l .inv in (
-      subst (λ (k : ℕ). AgentsLeft (g .table .now) (l .n + (1 + k)) (l .a + 1)) (sym (t .before .row-count .ensures))
-          (next-agent _ _ _ (i .0) (real (t .before .before)) _ (its t) (c .if1 .left)),
+    let i = t .before .before .before .loop .inv in
+    let r = few (t .before) in (
+      next-agent _ _ _ _ _ (i .0) (real (t .before .before)) (t .before .row-count .ensures) _ (t .rows-climb .ensures) (c .if1 .left),
       search needs,
       omega arith,
     )
@@ -58,7 +43,7 @@ returns-2 : tie.Need-returns-2 Inv-loop μ-loop
 returns-2 c =
     let e = c .before .before .agent-count .ensures in
     let l = c .loop-test .left in
-    no-agent _ _ _ (c .before .loop .inv .0) (omega arith)
+    no-agent _ _ _ _ (c .before .loop .inv .0) (omega arith)
 
 agent-count-requires : tie.Need-agent-count-requires Inv-loop μ-loop
 agent-count-requires c κs = search needs
@@ -70,10 +55,10 @@ row-count-requires : tie.Need-row-count-requires Inv-loop μ-loop
 row-count-requires c κs =
     let p = c .before .before .before .before .pre in
     let r = real c in
-    (omega (arith, p .0), omega (arith, p .1))
+    (omega (arith, p .0), omega (arith, p .2))
 
 add-rows-climb : tie.Need-add-rows-climb Inv-loop μ-loop
-add-rows-climb c = let i = c .before .before .loop .inv in let r = real (c .before) in omega (arith, c .before .before .before .before .before .pre .1)
+add-rows-climb c = let i = c .before .before .loop .inv in let r = real (c .before) in omega (arith, c .before .before .before .before .before .pre .1, c .before .before .before .before .before .pre .2)
 
 cast-rows-climb : tie.Need-cast-rows-climb Inv-loop μ-loop
 cast-rows-climb c = search needs
@@ -84,17 +69,18 @@ rows-climb-requires c κs =
     let i = c .before .before .loop .inv in
     let r = real (c .before) in
     let e = c .row-count .ensures in
-    (omega (arith, p .0), omega (arith, p .1), omega (arith, p .1), e, few c, λ j h. p .3 _ j r (omega arith))
+    (omega (arith, p .0), omega (arith, p .1, p .2), omega (arith, p .2), e, few c, λ j h. p .4 _ j r (omega arith))
 
-add-n : tie.Need-add-n Inv-loop μ-loop
-add-n c = omega (arith, few (c .before .before .before))
+add-line : tie.Need-add-line Inv-loop μ-loop
+add-line c = omega (arith, few (c .before .before .before))
 
-add-n-2 : tie.Need-add-n-2 Inv-loop μ-loop
-add-n-2 c =
+add-line-2 : tie.Need-add-line-2 Inv-loop μ-loop
+add-line-2 c =
     let t = c .before .before .before in
     let i = t .before .before .loop .inv in
     let r = real (t .before) in
-    omega (arith, few t, t .before .before .before .before .before .pre .1)
+    let p = t .before .before .before .before .before .pre in
+    omega (arith, few t, p .1, p .2)
 
 add-a : tie.Need-add-a Inv-loop μ-loop
 add-a c = search needs
@@ -116,8 +102,8 @@ table-climbs-spec =
     cast-rows-climb
     rows-climb-requires
     returns
-    add-n
-    add-n-2
+    add-line
+    add-line-2
     add-a
     loop-less
     loop-again

@@ -1,11 +1,14 @@
 -- `read` meets its contract: each pass's refusal is the reply, and where none refuses the words are the table's. Assumes nothing.
 use borrow.Author.Needs.{needs}
 use mathlib.Core.Path.{_≡_, sym, ap, _∙_}
+use mathlib.Core.List.{List}
+use Prim.Native.Nat.{ℕ}
+use native.Mathlib.Omega.{arith}
 use Rattle.tables.specs.Frames.{framesOf}
 use Rattle.reading.specs.Reader.{inPlace, rowsGood, tableClimbs, framesReply}
 use Rattle.reading.specs.Calls.{readOutcome}
 use Rattle.reading.specs.declared.Told.{Told}
-use Rattle.reading.proofs.Outcomes.{short-table, misplaced, row-refused, rows-passed, read-refused, read-accepted}
+use Rattle.reading.proofs.Outcomes.{short-table, not-placed, not-passed, all-passed, read-refused, read-accepted}
 use Rattle.reading.proofs.ReadGood.{climbs-ready}
 use Rattle.reading.proofs.reading.read.Statement.{statement}
 use Rattle.reading.proofs.reading.read.Tie as tie
@@ -19,10 +22,8 @@ in-place-requires c κs = search needs
 returns-2 : tie.Need-returns-2
 returns-2 c =
     let g = c .before .before .before .before .before .before .args in
-    let e = c .before .before .in-place .ensures in
     read-refused (g .text .now) (g .table .now) (c .before .before .before .if1 .left) _
-    (e ∙ sym (misplaced (framesOf (g .text .now)) (λ z. c .if2 .taken (ap (λ (t : Told). t .reply) e ∙ z))))
-    (c .if2 .taken)
+    (not-placed _ _ (c .before .before .in-place .ensures) (c .if2 .taken)) (c .if2 .taken)
 
 -- the lines are in their places
 placed : (c : tie.Else2) → inPlace 1 0 0 (framesOf (c .before .before .before .before .before .before .args .text .now)) .reply ≡ 0
@@ -42,10 +43,8 @@ returns-3 c =
     let t = c .before .before .before in
     let e = t .before .before .before in
     let g = e .before .before .before .before .before .before .args in
-    let r = t .take-rows .ensures .0 in
     read-refused (g .text .now) (g .table .now) (e .before .before .before .if1 .left) _
-    (r ∙ sym (row-refused (framesOf (g .text .now)) (placed e) (λ z. c .if3 .taken (ap (λ (u : Told). u .reply) r ∙ z))))
-    (c .if3 .taken)
+    (not-passed _ (placed e) _ (t .take-rows .ensures .0) (c .if3 .taken)) (c .if3 .taken)
 
 -- every row has passed 4 to 6, and the words are the table's
 passed : (c : tie.Else3) → rowsGood 1 0 0 (framesOf (c .before .before .before .before .before .before .before .before .before .before .before .before .args .text .now)) .reply ≡ 0
@@ -58,7 +57,8 @@ table-climbs-requires : tie.Need-table-climbs-requires
 table-climbs-requires c κs =
     let p = c .before in
     let t = p .before .before .before in
-    climbs-ready _ _ (placed (t .before .before .before)) (passed p) (t .take-rows .ensures .1 (p .if3 .left))
+    let (n, few, most, pass) = climbs-ready _ _ (placed (t .before .before .before)) (passed p) (t .take-rows .ensures .1 (p .if3 .left)) in
+    (n, omega arith, few, most, pass)
 
 -- so what is told of their windows is the reply
 told-is : (c : tie.After-table-climbs)
@@ -67,7 +67,18 @@ told-is c =
     let p = c .before .before in
     let t = p .before .before .before in
     let e = t .before .before .before in
-    c .table-climbs .ensures ∙ ap tableClimbs (t .take-rows .ensures .1 (p .if3 .left)) ∙ sym (rows-passed _ (placed e) (passed p))
+    c .table-climbs .ensures ∙ ap (λ (words : List ℕ). tableClimbs words 1) (t .take-rows .ensures .1 (p .if3 .left)) ∙ all-passed _ (placed e) (passed p)
+
+returns-5 : tie.Need-returns-5
+returns-5 c =
+    let t = c .before .before .before .before .before .before .before in
+    let p = t .before .before in
+    let r = p .before .before .before in
+    let e = r .before .before .before in
+    let g = e .before .before .before .before .before .before .args in
+    ap (readOutcome (t .table-climbs .result)) (c .before .before .put-table .ensures)
+    ∙ read-accepted (g .text .now) (g .table .now) (e .before .before .before .if1 .left) _ (told-is t) (c .before .before .before .before .before .if4 .left) _
+    (r .take-rows .ensures .1 (p .if3 .left))
 
 returns-4 : tie.Need-returns-4
 returns-4 c =
@@ -87,17 +98,6 @@ put-table-requires c κs =
 
 same-length : tie.Need-same-length
 same-length c = search needs
-
-returns-5 : tie.Need-returns-5
-returns-5 c =
-    let t = c .before .before .before .before .before .before .before in
-    let p = t .before .before in
-    let r = p .before .before .before in
-    let e = r .before .before .before in
-    let g = e .before .before .before .before .before .before .args in
-    ap (readOutcome (t .table-climbs .result)) (c .before .before .put-table .ensures)
-    ∙ read-accepted (g .text .now) (g .table .now) (e .before .before .before .if1 .left) _ (told-is t) (c .before .before .before .before .before .if4 .left) _
-    (r .take-rows .ensures .1 (p .if3 .left))
 
 pub read-spec : {M : Type 1} → statement M
 read-spec =

@@ -5,9 +5,8 @@ use mathlib.Core.Bool.{true}
 use native.Mathlib.Omega.{arith}
 use Prim.Native.Nat.{_≤_, _-_}
 use Rattle.tables.specs.Basics.{allBelow}
-use Rattle.tables.specs.Layout.{rows}
 use Rattle.tables.proofs.Tests.{refused, granted}
-use Rattle.tables.proofs.Loops.{rowPasses, row-passes, row-stops, window-stops, rows-end, below-none, below-next}
+use Rattle.tables.proofs.Loops.{rowPasses, row-good, row-stops, window-stops, rows-end, below-none, below-next}
 use Rattle.tables.proofs.checking.rows_are_good.Statement.{statement}
 use Rattle.tables.proofs.checking.rows_are_good.Tie as tie
 
@@ -24,7 +23,7 @@ loop-again : tie.Need-loop-again Inv-loop μ-loop
 loop-again c =
     let t = c .before .before .before in (
       below-next _ _ (t .before .before .loop .inv .0)
-          (row-passes _ _ _ (sym (t .row-reply-at .ensures) ∙ c .before .before .if1 .left) (granted _ _ (c .before .row-climbs .ensures) (c .if2 .left))),
+          (row-good _ _ _ (sym (t .row-reply-at .ensures) ∙ c .before .before .if1 .left) (granted _ _ (c .before .row-climbs .ensures) (c .if2 .left))),
       search needs,
     )
 

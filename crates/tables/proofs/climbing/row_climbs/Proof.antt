@@ -15,13 +15,6 @@ returns-2 c =
     far-back _ _ _ _ (t .row-at .ensures) (t .before .before .pre .5) (c .before .before .if1 .left)
     (refused _ _ (c .before .climbs-to2 .ensures) (c .if2 .taken))
 
-returns-3 : tie.Need-returns-3
-returns-3 c =
-    let u = c .before .before in
-    let t = u .before .before .before .before in
-    jump-on _ _ _ _ (t .row-at .ensures) (t .before .before .pre .5) (u .before .before .if1 .left)
-    (granted _ _ (u .before .climbs-to2 .ensures) (u .if2 .left)) (c .if3 .taken)
-
 returns-4 : tie.Need-returns-4
 returns-4 c =
     let u = c .before .before .before in
@@ -29,6 +22,13 @@ returns-4 c =
     c .climbs-to3 .ensures
     ∙ both-on _ _ _ _ (t .row-at .ensures) (t .before .before .pre .5) (u .before .before .if1 .left)
     (granted _ _ (u .before .climbs-to2 .ensures) (u .if2 .left)) (c .before .if3 .left)
+
+returns-3 : tie.Need-returns-3
+returns-3 c =
+    let u = c .before .before in
+    let t = u .before .before .before .before in
+    jump-on _ _ _ _ (t .row-at .ensures) (t .before .before .pre .5) (u .before .before .if1 .left)
+    (granted _ _ (u .before .climbs-to2 .ensures) (u .if2 .left)) (c .if3 .taken)
 
 row-at-requires : tie.Need-row-at-requires
 row-at-requires c κs = search needs

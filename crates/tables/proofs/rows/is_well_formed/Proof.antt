@@ -1,6 +1,6 @@
 -- `is_well_formed` meets its contract: in each family the bits that must be 0 are those of the fields in 01's table. Assumes nothing.
 use borrow.Author.Needs.{needs}
-use mathlib.Core.Path.{refl, sym, _∙_}
+use mathlib.Core.Path.{sym, _∙_}
 use mathlib.Core.Bool.{true, false}
 use Rattle.tables.specs.Layout.{rowOf}
 use Rattle.tables.proofs.Families.{set-row, two-registers-row, skip-row, jump-row, send-row, receive-row, unknown-row}
@@ -11,19 +11,19 @@ use Rattle.tables.proofs.rows.is_well_formed.Tie as tie
 returns : tie.Need-returns
 unfolding rowOf
 returns c early late =
-    by-bits _ _ early late true false false true refl ∙ sym (set-row (rowOf _ _ early late) (c .if1 .taken))
-
-returns-2 : tie.Need-returns-2
-unfolding rowOf
-returns-2 c early late =
-    let told = sym (c .before .before .before .before .family-of .ensures) ∙ c .before .before .enum-told .given .1 in
-    some-spare _ _ early late true true false false (c .if2 .taken) ∙ sym (two-registers-row (rowOf _ _ early late) told (c .before .if1 .left))
+    by-bits _ _ early late true false false ∙ sym (set-row (rowOf _ _ early late) (c .if1 .taken))
 
 returns-3 : tie.Need-returns-3
 unfolding rowOf
 returns-3 c early late =
     let told = sym (c .before .before .before .before .family-of .ensures) ∙ c .before .before .enum-told .given .1 in
     none-spare _ _ early late true true false false (c .if2 .left) ∙ sym (two-registers-row (rowOf _ _ early late) told (c .before .if1 .left))
+
+returns-2 : tie.Need-returns-2
+unfolding rowOf
+returns-2 c early late =
+    let told = sym (c .before .before .before .before .family-of .ensures) ∙ c .before .before .enum-told .given .1 in
+    some-spare _ _ early late true true false false (c .if2 .taken) ∙ sym (two-registers-row (rowOf _ _ early late) told (c .before .if1 .left))
 
 returns-4 : tie.Need-returns-4
 unfolding rowOf
@@ -50,13 +50,13 @@ returns-7 c early late =
 returns-8 : tie.Need-returns-8
 unfolding rowOf
 returns-8 c early late =
-    by-bits _ _ early late true false false true refl
+    by-bits _ _ early late true false false
     ∙ sym (send-row (rowOf _ _ early late) (sym (c .before .before .family-of .ensures) ∙ c .enum-told3 .given .1))
 
 returns-9 : tie.Need-returns-9
 unfolding rowOf
 returns-9 c early late =
-    by-bits _ _ early late true false true true refl
+    by-bits _ _ early late true false true
     ∙ sym (receive-row (rowOf _ _ early late) (sym (c .before .before .family-of .ensures) ∙ c .enum-told4 .given .1))
 
 returns-10 : tie.Need-returns-10

@@ -19,14 +19,6 @@ sub-if2 c = search needs
 sub-if2-2 : tie.Need-sub-if2-2
 sub-if2-2 c = search needs
 
-returns-2 : tie.Need-returns-2
-unfolding rowOf
-returns-2 c =
-    let d = c .before in
-    bad-target (rowOf _ _ _ _) _ _
-    (granted _ _ (d .before .is-well-formed .ensures _ _) (d .if1 .left))
-    (past-rows _ _ _ (d .before .before .pre) (c .if2 .taken))
-
 returns-3 : tie.Need-returns-3
 unfolding rowOf
 returns-3 c =
@@ -35,6 +27,14 @@ returns-3 c =
     (granted _ _ (d .before .is-well-formed .ensures _ _) (d .if1 .left))
     (within-rows _ _ _ (d .before .before .pre) (c .before .if2 .left))
     (c .if3 .taken)
+
+returns-2 : tie.Need-returns-2
+unfolding rowOf
+returns-2 c =
+    let d = c .before in
+    bad-target (rowOf _ _ _ _) _ _
+    (granted _ _ (d .before .is-well-formed .ensures _ _) (d .if1 .left))
+    (past-rows _ _ _ (d .before .before .pre) (c .if2 .taken))
 
 returns-4 : tie.Need-returns-4
 unfolding rowOf
