@@ -230,9 +230,9 @@ typedef struct { uint32_t reply; size_t length; } tannoplex_traced;
  * 36 and 2 digits), and with 19 where it begins otherwise or has fewer than two digits; a good one
  * that is out of place with 3. What follows the end line is not looked at: it is 3.
  * Replies: 1; then 2, 18, 19 or 3 for the earliest line; then 4, 5 or 6 for the first row of all;
- * then, where no row of any agent has one of these, 7 for the first row that goes on to an earlier
- * one, told with its own line and not that of the other. Where it is accepted all words of the table
- * are written.
+ * then, where no row of any agent has one of these, 7 for the first row that goes on to one whose
+ * early or late is below its own, told with its own line and not that of the other. Where it is
+ * accepted all words of the table are written.
  */
 tannoplex_told tannoplex_read(const uint8_t *text, size_t text_len, uint32_t *table,
                               size_t table_len);

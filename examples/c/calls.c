@@ -17,11 +17,11 @@
     "0301010000000400000000000000050000000000000000\n"                                             \
     "FE000002\n"
 
-/* A SKIP over one arm, which ends with a JUMP over the other; the other is earlier. */
+/* A SKIP over one arm, which ends with a JUMP over the other; both arms are in one time. */
 #define ARMS                                                                                       \
     "000000000000000000000000000000000000\n"                                                       \
     "010010000002000000000000000100000003\n"                                                       \
-    "010000000000000000010000000500000008\n"                                                       \
+    "010000000000000000010000000200000004\n"                                                       \
     "010011000001000000000000000500000008\n"                                                       \
     "010000000000000000020000000200000004\n"                                                       \
     "FF\n"
@@ -77,7 +77,7 @@ static void test_windows(void)
     tannoplex_ran ran = tannoplex_run(again, words, state, TANNOPLEX_STATE_WORDS, second_arm, 4);
     expect(ran.reply == TANNOPLEX_ACCEPTED && ran.count == 2 &&
                state[TANNOPLEX_STATE_REGISTER(0, 0)] == 2,
-           "run, the second arm before the time of the first");
+           "run, the second arm in the time of the first");
 
     again[TANNOPLEX_TABLE_ROW(0, 3) + TANNOPLEX_ROW_EARLY] = 0;
     expect(tannoplex_check(again, words) == TANNOPLEX_BAD_TABLE, "check, an arm before its SKIP");

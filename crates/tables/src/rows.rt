@@ -20,7 +20,7 @@ const SKIP: u32 = 0x10;
 
 pub const JUMP: u32 = 0x11;
 
-// The family that an op is in: the one place where the ops are told apart by number.
+// The family that an op is in: the one place where an op's number is matched.
 pub fn family_of(op: u32) -> Family
     ensures { λ r. ⌜ r ≡ familyOf op ⌝ }
 {

@@ -63,10 +63,15 @@ pub fn backs(rows: &[Row]) -> Vec<Back> {
     all.filter(|back| back.early || back.late).collect()
 }
 
-/// Whether some row has an early or late below that of the row before it, which document 01 refused.
+/// Whether this row's early or late is below that of the row before it, which document 01 refused.
+pub fn is_earlier_than_before(rows: &[Row], i: usize) -> bool {
+    i > 0 && (rows[i].early < rows[i - 1].early || rows[i].late < rows[i - 1].late)
+}
+
+/// Whether some row of the table is so.
 pub fn has_earlier_row_below(table: &Table) -> bool {
-    let is_earlier = |two: &[Row]| two[1].early < two[0].early || two[1].late < two[0].late;
-    table.agents.iter().any(|agent| agent.rows.windows(2).any(is_earlier))
+    let has_one = |rows: &[Row]| (0..rows.len()).any(|i| is_earlier_than_before(rows, i));
+    table.agents.iter().any(|agent| has_one(&agent.rows))
 }
 
 /// Whether some path from row 0 reaches this row.

@@ -6,7 +6,7 @@ mod faulty;
 use std::cmp::Reverse;
 
 use cases::suite::Kind;
-use cases::ways::{has_earlier_row_below, is_reached, ways, Way};
+use cases::ways::{has_earlier_row_below, is_earlier_than_before, is_reached, ways, Way};
 use cases::{compare, layout, Board, Plan};
 use faulty::{is_found, Faulty, Quick, Told, GOOD};
 use reference::executive::{Message, State};
@@ -111,11 +111,8 @@ const WRONG_ORDERS: [WrongOrder; 5] = [
     ("document 01's rule, row by row", |table| {
         places(table).into_iter().find_map(|(a, i)| {
             let rows = &table.agents[a].rows;
-            let is_back = |i: usize| {
-                i > 0 && (rows[i].early < rows[i - 1].early || rows[i].late < rows[i - 1].late)
-            };
             match row_reply(rows, i) {
-                ACCEPTED => is_back(i).then_some((WINDOW_GOES_BACK, a, i)),
+                ACCEPTED => is_earlier_than_before(rows, i).then_some((WINDOW_GOES_BACK, a, i)),
                 reply => Some((reply, a, i)),
             }
         })

@@ -25,7 +25,7 @@ fn each_arm_is_run_in_the_same_time() {
     assert_shown(&table, &file("power.choices"));
     // Register 0 becomes 0.
     let without_power = table.replacen('1', "0", 1);
-    assert_shown(&without_power, &file("refused.choices"));
+    assert_shown(&without_power, &file("no-power.choices"));
     let rows = &table_of_text(table.as_bytes()).unwrap().agents[0].rows;
     let window = |i: usize| (rows[i].early, rows[i].late);
     assert_eq!((window(1), window(2)), (window(4), window(5)));

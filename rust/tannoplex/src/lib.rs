@@ -91,7 +91,8 @@ pub struct Traced {
 ///
 /// Replies [`Reply::BufferTooShort`] first, then one of 2, 18, 19 and 3 for the earliest line, the first
 /// in this order that holds of it, then 4 to 6 for the first row of all, then 7 for the first row that
-/// goes on to an earlier one. On success the table's words are written, unused ones 0.
+/// goes on to one whose early or late is below its own, with its own line. On success the table's words
+/// are written, unused ones 0.
 pub fn read(text: &[u8], table: &mut [u32]) -> Told {
     // SAFETY: both pointers come with the lengths of the slices they are taken from, and the
     // borrows last until the call returns; one is exclusive, so the buffers do not overlap.
