@@ -48,7 +48,7 @@ asks rs = asksAll (rs ∷ [])
 
 cases : T (every (
     -- SKIP, one arm, JUMP, the other arm, both in one time
-    asks (skip 2 1 5 ∷ set 5 9 ∷ jump 1 5 9 ∷ set 3 9 ∷ set 6 9 ∷ []) 0 0
+    asks (skip 2 1 5 ∷ set 3 9 ∷ jump 1 5 9 ∷ set 3 9 ∷ set 6 9 ∷ []) 0 0
     -- the row that goes on to an earlier one is told: P12, and by its late alone
     ∷ asks (set 4 8 ∷ set 3 8 ∷ []) 7 2
     ∷ asks (set 4 8 ∷ set 4 7 ∷ []) 7 2
