@@ -6,8 +6,8 @@ use mathlib.Core.List.{List, [], _∷_, map}
 use Prim.Native.Nat.{ℕ, _+_, _≤_, _<_}
 use native.Mathlib.Omega.{arith}
 use lib.Dec.{leb, eqb}
-use borrow.Author.Tests.{leb-true, le-leb, lt-leb, eqb-true, eqb-false}
-use Rattle.tables.proofs.Tests.{or-left, and-left}
+use borrow.Author.Tests.{leb-true, leb-false, le-leb, lt-leb, eqb-true, eqb-false}
+use Rattle.tables.proofs.Tests.{or-left, and-left, and-both}
 use Rattle.tables.proofs.Passed.{and-1, and-2, every-go, every-stop, every-last}
 use Rattle.tables.proofs.Families.{Plain, n-unnamed}
 use Rattle.tables.proofs.RowReplies.{passed-formed}
@@ -62,6 +62,12 @@ each-of f [] h j one = absurd one
 each-of f (i ∷ is) h j (inl e) = ap f e ∙ and-1 (f i) (every (map f is)) h
 each-of f (i ∷ is) h j (inr one) = each-of f is (and-2 (f i) (every (map f is)) h) j one
 
+-- and back
+all-of : (f : ℕ → Bool) (js : List ℕ) → ((j : ℕ) → OneOf j js → f j ≡ true) → every (map f js) ≡ true
+unfolding every
+all-of f [] h = refl
+all-of f (i ∷ is) h = and-both (f i) (every (map f is)) (h i (inl refl)) (all-of f is (λ j one. h j (inr one)))
+
 module _ (tb : List ℕ) (a i : ℕ) where
   -- the end has no window
   pub to-end : (j : ℕ) → rows tb a ≤ j → true ≡ climbsTo tb a i j
@@ -94,6 +100,17 @@ module _ (tb : List ℕ) (a i : ℕ) where
       → (row tb a i .early ≤ row tb a j .early) × (row tb a i .late ≤ row tb a j .late)
   unfolding climbs
   climbs-on h j one l = both-up j l (each-of (climbsTo tb a i) (goesOnTo (row tb a i) i) h j one)
+
+  -- and what it asks
+  pub all-climb : ((j : ℕ) → OneOf j (goesOnTo (row tb a i) i) → j < rows tb a → (row tb a i .early ≤ row tb a j .early) × (row tb a i .late ≤ row tb a j .late))
+      → climbs tb a i ≡ true
+  unfolding climbs
+  all-climb h = all-of (climbsTo tb a i) (goesOnTo (row tb a i) i) (λ j one. go j (h j one) (leb (rows tb a) j) refl)
+    where
+      go : (j : ℕ) → (j < rows tb a → (row tb a i .early ≤ row tb a j .early) × (row tb a i .late ≤ row tb a j .late)) → (b : Bool) → leb (rows tb a) j ≡ b
+          → climbsTo tb a i j ≡ true
+      go j k true e = sym (to-end j (leb-true _ _ e))
+      go j k false e = let l = leb-false _ _ e in let (early, late) = k l in sym (by-late j l early) ∙ le-leb _ _ late
 
   -- ---- by the two rows that there are at most, of the row that was read
 

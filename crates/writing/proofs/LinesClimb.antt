@@ -5,7 +5,7 @@ use mathlib.Core.List.{List, _++_, _∷_}
 use Prim.Native.Nat.{ℕ, zero, suc, _+_, _-_}
 use native.Mathlib.Numerals.{add-one}
 use native.Mathlib.Omega.{arith}
-use Rattle.tables.specs.Layout.{agents, rows, startPlace, rowPlace}
+use Rattle.tables.specs.Layout.{agents, rows, rowPlace}
 use Rattle.tables.specs.Table.{climbs}
 use Rattle.tables.specs.Frames.{Frame, gives}
 use Rattle.reading.specs.Reader.{told, rowsClimb, firstTold, agentsClimb, tableClimbs}
