@@ -78,14 +78,17 @@ way-taken r p j one = go (goesOnTo r p) (onward r p) one
     held : (v : ℕ) → getD (holding v .regs) (r .x) 0 ≡ v
     held v = getD-replicate (r .x + 1) (r .x) v 0 (omega arith)
 
+    -- its way, by what the row makes of it
+    way : (v : ℕ) (m : Best) (g : Agent) → g ≡ after r m (holding v) → j ≡ g .pos → Way r p j
+    way v m g made e = (holding v, m, refl, ap (λ (h : Agent). h .pos) (sym made) ∙ sym e)
+
     go : (js : List ℕ) → Onward r p js → OneOf j js → Way r p j
-    go js (both (inl k)) (inl e) =
-        (holding 1, Nothing, refl, ap (λ (g : Agent). g .pos) (sym (after-stay r Nothing (holding 1) k (λ z. let h = held 1 in omega arith))) ∙ sym e)
-    go js (both (inl k)) (inr (inl e)) = (holding 0, Nothing, refl, ap (λ (g : Agent). g .pos) (sym (after-skip r Nothing (holding 0) k (held 0))) ∙ sym e)
-    go js (both (inr v)) (inl e) = (holding 0, Message 0 0 0 0, refl, ap (λ (g : Agent). g .pos) (sym (after-receive r (Message 0 0 0 0) (holding 0) v)) ∙ sym e)
-    go js (both (inr v)) (inr (inl e)) = (holding 0, Nothing, refl, ap (λ (g : Agent). g .pos) (sym (after-receive r Nothing (holding 0) v)) ∙ sym e)
-    go js (far o) (inl e) = (holding 0, Nothing, refl, ap (λ (g : Agent). g .pos) (sym (after-jump r Nothing (holding 0) o)) ∙ sym e)
-    go js (near o) (inl e) = (holding 0, Nothing, refl, goes-near r Nothing (holding 0) o ∙ sym e)
+    go js (both (inl k)) (inl e) = way 1 Nothing _ (after-stay r Nothing (holding 1) k (λ z. let h = held 1 in omega arith)) e
+    go js (both (inl k)) (inr (inl e)) = way 0 Nothing _ (after-skip r Nothing (holding 0) k (held 0)) e
+    go js (both (inr v)) (inl e) = way 0 (Message 0 0 0 0) _ (after-receive r (Message 0 0 0 0) (holding 0) v) e
+    go js (both (inr v)) (inr (inl e)) = way 0 Nothing _ (after-receive r Nothing (holding 0) v) e
+    go js (far o) (inl e) = way 0 Nothing _ (after-jump r Nothing (holding 0) o) e
+    go js (near o) (inl e) = way 0 Nothing _ refl (e ∙ sym (goes-near r Nothing (holding 0) o))
 
 -- ---- the agent of an accepted step
 

@@ -4,16 +4,11 @@ use mathlib.Core.List.{[], _∷_}
 use Prim.Native.Nat.{ℕ, zero, suc, _+_, _<_}
 use native.Mathlib.Decide.{ℕ-discrete}
 use native.Mathlib.Omega.{arith}
-use Rattle.tables.specs.Basics.{OneOf}
-use Rattle.tables.specs.Rows.{goesOnTo}
 use Rattle.tables.specs.Paths.{GoesOn, Path, here, on}
 use Rattle.tables.proofs.Good.{few, few-rows}
 use Rattle.tables.proofs.Paths.{windows-climb}
 use Rattle.executive.specs.Laws.{BestIsTaken, NoneIsTaken, NextDepends, AcceptedExactly, StuckExactly, NeverStuck, StartFits, StepKeepsFit, GoesOnExactly, StepGoesOn, RunIsPath, EarlierNeverComes, SendIsSent, RunIsSteps, RunCounts}
-use Rattle.choices.specs.declared.Agent.{Agent}
-use Rattle.choices.specs.declared.Best.{Best}
 use Rattle.choices.specs.State.{pos}
-use Rattle.choices.specs.Effect.{after}
 use Rattle.choices.specs.Step.{choiceReply, accepted}
 use Rattle.executive.specs.Run.{RunOutcome, runFrom}
 use Rattle.choices.proofs.After.{accepted-length, accepted-pos-other, sent-own-mark, sent-own-value}
@@ -67,13 +62,7 @@ step-keeps-fit tb st a t s c =
     }
 
 pub goes-on-exactly : GoesOnExactly
-goes-on-exactly r p j = (there, back)
-  where
-    there : OneOf j (goesOnTo r p) → (s : Agent) × (m : Best) × (s .pos ≡ p) × (after r m s .pos ≡ j)
-    there = way-taken r p j
-
-    back : ((s : Agent) × (m : Best) × (s .pos ≡ p) × (after r m s .pos ≡ j)) → OneOf j (goesOnTo r p)
-    back w = rw (← w .3, ← w .2) (after-goes r (w .1) (w .0))
+goes-on-exactly r p j = (way-taken r p j, λ w. rw (← w .3, ← w .2) (after-goes r (w .1) (w .0)))
 
 pub step-goes-on : StepGoesOn
 step-goes-on tb st a t s c =

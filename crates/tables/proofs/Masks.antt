@@ -21,6 +21,10 @@ spareOf x y n = ((0 * 256 + spare x 252) * 256 + spare y 252) * 256 + spare n 22
 
 -- ---- a field
 
+in-byte : (named : Bool) (above : ℕ) → above < 256 → spare named above < 256
+in-byte true above h = h
+in-byte false above h = omega arith
+
 -- the bits that must be 0 are 0 exactly where the field is within its limit
 pub record Spares (named : Bool) (limit above v : ℕ) : Type 0 where
   pub none : within named limit v ≡ true → bitAnd v (spare named above) ≡ 0
@@ -37,10 +41,18 @@ module _ (v : ℕ) (byte : v < 256) where
 
   -- `omega` reads the powers as numerals alone
   spares-3 : (named : Bool) → Spares named 3 252 v
-  spares-3 = let e : bitAnd v 252 ≡ v / 4 % 64 * 4 = and-high v 6 2 in let q : v / 4 ≤ 63 = omega arith in let m : v / 4 % 64 ≡ v / 4 = omega arith in spares 3 252 (λ h. omega arith) (λ h. omega arith)
+  spares-3 =
+      let e : bitAnd v 252 ≡ v / 4 % 64 * 4 = and-high v 6 2 in
+      let q : v / 4 ≤ 63 = omega arith in
+      let m : v / 4 % 64 ≡ v / 4 = omega arith in
+      spares 3 252 (λ h. omega arith) (λ h. omega arith)
 
   spares-31 : (named : Bool) → Spares named 31 224 v
-  spares-31 = let e : bitAnd v 224 ≡ v / 32 % 8 * 32 = and-high v 3 5 in let q : v / 32 ≤ 7 = omega arith in let m : v / 32 % 8 ≡ v / 32 = omega arith in spares 31 224 (λ h. omega arith) (λ h. omega arith)
+  spares-31 =
+      let e : bitAnd v 224 ≡ v / 32 % 8 * 32 = and-high v 3 5 in
+      let q : v / 32 ≤ 7 = omega arith in
+      let m : v / 32 % 8 ≡ v / 32 = omega arith in
+      spares 31 224 (λ h. omega arith) (λ h. omega arith)
 
 -- ---- a code word
 
@@ -53,10 +65,6 @@ module _ (code k early late : ℕ) (x y n : Bool) where
 
   abbrev bits-n : ℕ
   bits-n = bitAnd (code % 256) (spare n 224)
-
-  in-byte : (named : Bool) (above : ℕ) → above < 256 → spare named above < 256
-  in-byte true above h = h
-  in-byte false above h = omega arith
 
   by-fields : bitAnd code (spareOf x y n) ≡ ((0 * 256 + bits-x) * 256 + bits-y) * 256 + bits-n
   by-fields =
