@@ -189,11 +189,13 @@ extern "C" {
 #define TANNOPLEX_BAD_TABLE 8           /* the table words break a rule */
 #define TANNOPLEX_BAD_STATE 9           /* the state words do not fit the table */
 #define TANNOPLEX_NO_SUCH_AGENT 10      /* no such agent */
-#define TANNOPLEX_AGENT_ENDED 11        /* the agent has ended */
+#define TANNOPLEX_AGENT_ENDED 11        /* the agent has ended, or all have where one is to be
+                                           picked */
 #define TANNOPLEX_TIME_BELOW_CLOCK 12   /* time below the clock */
 #define TANNOPLEX_TIME_BELOW_EARLY 13   /* time below the row's early */
-#define TANNOPLEX_STUCK 14              /* stuck: no agent and time at all would be accepted (though
-                                           some agent is unfinished; proved never to be met) */
+/* 14                                      reserved: no call gives it (it stood for "stuck", which is
+                                           proved never to be met: code that recovers from it can be
+                                           deleted) */
 #define TANNOPLEX_TIME_ABOVE_LATE 15    /* time above some unfinished agent's late */
 #define TANNOPLEX_ODD_CHOICES 16        /* the list of choices has an odd number of words */
 #define TANNOPLEX_INPUT_TOO_LONG 17     /* the trace program's input is above 65,536 bytes */

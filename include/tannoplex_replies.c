@@ -1,6 +1,6 @@
 /*
  * The replies in words. The tests hold them to those of rust/header, of tannoplex.h and of the
- * README, and scripts read them by line: each reply has a line of its own in this form, in order.
+ * README, and scripts read them by line: each number has a line of its own in this form, in order.
  */
 #include "tannoplex_replies.h"
 
@@ -16,10 +16,10 @@ static const char *const texts[] = {
     /* 8 */ "the table words break a rule",
     /* 9 */ "the state words do not fit the table",
     /* 10 */ "no such agent",
-    /* 11 */ "the agent has ended",
+    /* 11 */ "the agent has ended, or all have where one is to be picked",
     /* 12 */ "time below the clock",
     /* 13 */ "time below the row's early",
-    /* 14 */ "stuck: no agent and time at all would be accepted",
+    /* 14 */ "reserved: no call gives it",
     /* 15 */ "time above some unfinished agent's late",
     /* 16 */ "the list of choices has an odd number of words",
     /* 17 */ "the trace program's input is above 65,536 bytes",

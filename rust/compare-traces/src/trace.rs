@@ -160,13 +160,11 @@ fn last(reply: u32, told: u32, steps: usize) -> Result<Last, String> {
         | Reply::TextTooLong => {
             return Err(format!("no trace ends with reply {}", reply.number()));
         }
-        // Stuck is proved never to be met; of a board with a fault it is worth showing.
         Reply::Accepted
         | Reply::NoSuchAgent
         | Reply::AgentEnded
         | Reply::TimeBelowClock
         | Reply::TimeBelowEarly
-        | Reply::Stuck
         | Reply::TimeAboveLate => (None, told as usize == steps),
     };
     if !fits {
@@ -238,6 +236,7 @@ FE000002
                 "time below the clock, which is 00000001: \"",
             ),
             ("03010100000004", "030101000F4241", 2, "time above 1,000,000: \"030101000F4241"),
+            ("FE000002", "FE0E0002", 3, "there is no reply 14: \"FE0E0002\""),
             ("FE000002", "FE100002", 3, "no trace ends with reply 16: \"FE100002\""),
             ("FE000002", "FE140002", 3, "no trace ends with reply 20: \"FE140002\""),
             ("FE000002", "FE150002", 3, "there is no reply 21: \"FE150002\""),
@@ -264,12 +263,12 @@ FE000002
 
     #[test]
     fn the_last_line_fits_the_steps() {
-        for good in ["FE000002", "FE0A0002", "FE0E0002", "FE0F0002"] {
+        for good in ["FE000002", "FE0A0002", "FE0D0002", "FE0F0002"] {
             assert!(Trace::of(&altered("FE000002", good)).is_ok(), "{good}");
         }
         for bad in [
             "FE000003", "FE000001", "FE0F0000", "FE020002", "FE110000", "FE110002", "FE010002",
-            "FE080002", "FE090002", "FE100002", "FE120002", "FE130002", "FE140002",
+            "FE080002", "FE090002", "FE0E0002", "FE100002", "FE120002", "FE130002", "FE140002",
         ] {
             let error = Trace::of(&altered("FE000002", bad)).unwrap_err();
             assert_eq!(error.line, Some(3), "{bad}");
@@ -294,6 +293,7 @@ FE000002
             "FE010000\n",
             "FE020000\n",
             "FE080000\n",
+            "FE0E0000\n",
             "FE100000\n",
             "FE110001\n",
             "FE120000\n",

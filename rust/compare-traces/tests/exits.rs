@@ -202,6 +202,15 @@ fn a_malformed_line_is_shown_cut_and_without_control_bytes() {
 }
 
 #[test]
+fn a_trace_that_ends_with_the_reserved_number_is_none() {
+    let stuck = GOOD.replace("FE000002", "FE0E0002");
+    let folder = Folder::new("reserved").with("one", GOOD).with("stuck", &stuck);
+    let message = "tools/compare: stuck:3: there is no reply 14: \"FE0E0002\"\n";
+    folder.run(&["one", "stuck"]).assert_failed(message);
+    folder.run(&["stuck", "stuck"]).assert_failed(message);
+}
+
+#[test]
 fn no_more_is_read_than_a_trace_can_have() {
     let folder = Folder::new("endless").with("one", GOOD);
     folder.run(&["one", "/dev/zero"]).assert_failed("tools/compare: /dev/zero: longer than ");

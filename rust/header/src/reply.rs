@@ -29,14 +29,13 @@ pub enum Reply {
     BadState = 9,
     /// 10: no such agent.
     NoSuchAgent = 10,
-    /// 11: the agent has ended.
+    /// 11: the agent has ended, or all have where one is to be picked.
     AgentEnded = 11,
     /// 12: time below the clock.
     TimeBelowClock = 12,
     /// 13: time below the row's early.
     TimeBelowEarly = 13,
-    /// 14: no agent and time at all would be accepted, though some agent is unfinished.
-    Stuck = 14,
+    // 14 is reserved.
     /// 15: time above some unfinished agent's late.
     TimeAboveLate = 15,
     /// 16: the list of choices has an odd number of words.
@@ -52,8 +51,12 @@ pub enum Reply {
 }
 
 impl Reply {
-    /// All replies, by number.
-    pub const ALL: [Reply; 21] = [
+    /// The number that is reserved: no call gives it. It stood for "stuck", which is proved never to be
+    /// met.
+    pub const RESERVED: u32 = 14;
+
+    /// All replies, in the order of their numbers.
+    pub const ALL: [Reply; 20] = [
         Reply::Accepted,
         Reply::BufferTooShort,
         Reply::BadCharacter,
@@ -68,7 +71,6 @@ impl Reply {
         Reply::AgentEnded,
         Reply::TimeBelowClock,
         Reply::TimeBelowEarly,
-        Reply::Stuck,
         Reply::TimeAboveLate,
         Reply::OddChoices,
         Reply::InputTooLong,
@@ -93,9 +95,10 @@ impl Reply {
 impl TryFrom<u32> for Reply {
     type Error = u32;
 
-    /// The reply with this number, or the number itself where there is none.
+    /// The reply with this number, or the number itself where there is none, as of
+    /// [`Reply::RESERVED`].
     fn try_from(number: u32) -> Result<Reply, u32> {
-        Reply::ALL.get(number as usize).copied().ok_or(number)
+        Reply::ALL.into_iter().find(|reply| reply.number() == number).ok_or(number)
     }
 }
 
@@ -116,10 +119,9 @@ impl fmt::Display for Reply {
             Reply::BadTable => "the table words break a rule",
             Reply::BadState => "the state words do not fit the table",
             Reply::NoSuchAgent => "no such agent",
-            Reply::AgentEnded => "the agent has ended",
+            Reply::AgentEnded => "the agent has ended, or all have where one is to be picked",
             Reply::TimeBelowClock => "time below the clock",
             Reply::TimeBelowEarly => "time below the row's early",
-            Reply::Stuck => "stuck: no agent and time at all would be accepted",
             Reply::TimeAboveLate => "time above some unfinished agent's late",
             Reply::OddChoices => "the list of choices has an odd number of words",
             Reply::InputTooLong => "the trace program's input is above 65,536 bytes",
@@ -143,10 +145,13 @@ mod tests {
     use super::*;
 
     #[test]
-    fn each_number_has_its_reply() {
-        for (number, reply) in (0..).zip(Reply::ALL) {
+    fn each_number_but_the_reserved_one_has_its_reply() {
+        let numbers = (0..).filter(|&number| number != Reply::RESERVED);
+        for (number, reply) in numbers.zip(Reply::ALL) {
             assert_eq!((reply.number(), Reply::try_from(number)), (number, Ok(reply)));
         }
-        assert_eq!(Reply::try_from(21), Err(21));
+        for number in [Reply::RESERVED, 21] {
+            assert_eq!(Reply::try_from(number), Err(number));
+        }
     }
 }

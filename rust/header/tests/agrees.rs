@@ -1,6 +1,6 @@
 //! This crate and the C header say the same: sizes, places, ops, numbers and names of the replies,
-//! which the proved code has too, the version; and the words of the replies are alike wherever they
-//! stand.
+//! which the proved code has too, the version; and the words of the replies, and of the number that is
+//! reserved, are alike wherever they stand.
 
 use std::collections::BTreeMap;
 use std::fs;
@@ -15,7 +15,7 @@ fn file(name: &str) -> String {
 }
 
 /// The macros of the header without arguments: name after `TANNOPLEX_`, and all that follows it up
-/// to the next directive or blank line, since a comment may go on below.
+/// to the next directive, comment of its own or blank line, since a comment may go on below.
 fn macros() -> Vec<(String, String)> {
     let header = file("include/tannoplex.h");
     let mut macros: Vec<(String, String)> = Vec::new();
@@ -28,7 +28,7 @@ fn macros() -> Vec<(String, String)> {
             if goes_on {
                 macros.push((name.to_string(), rest.trim().to_string()));
             }
-        } else if line.starts_with('#') || line.trim().is_empty() {
+        } else if line.starts_with(['#', '/']) || line.trim().is_empty() {
             goes_on = false;
         } else if goes_on {
             let (_, rest) = macros.last_mut().expect("one goes on");
@@ -153,6 +153,18 @@ fn the_changelog_begins_with_this_version() {
     assert_eq!(version, Some(env!("CARGO_PKG_VERSION")), "## {newest}");
 }
 
+/// The words for the number that is reserved, wherever there are words for the replies.
+const RESERVED: &str = "reserved: no call gives it";
+
+/// Each number with its words: the replies, and the one that is reserved in its place.
+fn numbers_and_words() -> Vec<(u32, String)> {
+    let mut all: Vec<(u32, String)> =
+        Reply::ALL.iter().map(|reply| (reply.number(), reply.to_string())).collect();
+    all.push((Reply::RESERVED, RESERVED.to_string()));
+    all.sort();
+    all
+}
+
 /// The words that a file gives for each number, in the order of its lines.
 fn listed<'a>(lines: impl Iterator<Item = Option<(&'a str, &'a str)>>) -> Vec<(u32, String)> {
     lines
@@ -163,8 +175,9 @@ fn listed<'a>(lines: impl Iterator<Item = Option<(&'a str, &'a str)>>) -> Vec<(u
 
 #[test]
 fn the_replies_are_in_the_same_words_everywhere() {
-    let expected: Vec<(u32, String)> =
-        Reply::ALL.iter().map(|reply| (reply.number(), reply.to_string())).collect();
+    let expected = numbers_and_words();
+    let numbers: Vec<u32> = expected.iter().map(|(number, _)| *number).collect();
+    assert_eq!(numbers, (0..=20).collect::<Vec<u32>>(), "each number has words, and once");
 
     let texts = file("include/tannoplex_replies.c");
     let in_c = listed(
@@ -190,6 +203,19 @@ fn the_replies_are_in_the_same_words_everywhere() {
         let words = comment.strip_suffix(" */").expect("a comment ends");
         assert_eq!(without_remark(words), reply.to_string(), "TANNOPLEX_{name}, then this crate");
     }
+}
+
+/// In the header a number that is reserved has a comment where its macro would stand.
+#[test]
+fn the_reserved_number_has_its_words_in_the_header_and_no_name() {
+    let header = file("include/tannoplex.h");
+    let (before, rest) = header.split_once("\n/* 14 ").expect("a comment on 14");
+    let (comment, after) = rest.split_once(" */\n").expect("a comment ends");
+    let words = comment.split_whitespace().collect::<Vec<_>>().join(" ");
+    assert_eq!((Reply::RESERVED, without_remark(&words)), (14, RESERVED));
+    assert!(before.lines().last().unwrap().starts_with("#define TANNOPLEX_TIME_BELOW_EARLY 13 "));
+    assert!(after.starts_with("#define TANNOPLEX_TIME_ABOVE_LATE 15 "));
+    assert!(!header.contains("TANNOPLEX_STUCK"));
 }
 
 #[test]
