@@ -10,6 +10,8 @@ pub trait Board {
     fn check(&self, table: &[u32]) -> u32;
     /// Makes the start state.
     fn start(&self, table: &[u32], state: &mut [u32]) -> u32;
+    /// Picks a choice that a step accepts: reply, agent and time.
+    fn pick(&self, table: &[u32], state: &[u32]) -> (u32, u32, u32);
     /// One step.
     fn step(&self, table: &[u32], state: &mut [u32], agent: u32, time: u32) -> u32;
     /// A run from the start state: reply and count.

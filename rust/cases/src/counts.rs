@@ -8,6 +8,7 @@ use reference::table::RECV;
 use reference::{Row, Table};
 
 use crate::choices::Choice;
+use crate::picked::Picks;
 use crate::suite::Kind;
 use crate::ways::{backs, has_earlier_row_below, is_reached, Back, Way};
 
@@ -18,17 +19,19 @@ pub enum Call {
     Write,
     Check,
     Start,
+    Pick,
     Step,
     Run,
     Trace,
     Choices,
 }
 
-const CALLS: [Call; 8] = [
+const CALLS: [Call; 9] = [
     Call::Read,
     Call::Write,
     Call::Check,
     Call::Start,
+    Call::Pick,
     Call::Step,
     Call::Run,
     Call::Trace,
@@ -39,14 +42,13 @@ const CALLS: [Call; 8] = [
 pub const LINE_REPLIES: [usize; 3] = [2, 18, 19];
 
 impl Call {
-    /// The replies that it can give. 14 is not among them: the state fits its table wherever it is
-    /// tested, so the clock is not above the least late of the unfinished agents, and the agent of
-    /// that late, its early being below, can be run at the greater of the clock and its early.
+    /// The replies that it can give.
     fn replies(self) -> &'static [usize] {
         match self {
             Call::Read => &[0, 1, 2, 3, 4, 5, 6, 7, 18, 19],
             Call::Write => &[0, 1, 8, 20],
             Call::Check | Call::Start => &[0, 1, 8],
+            Call::Pick => &[0, 1, 8, 9, 11],
             Call::Step => &[0, 1, 8, 9, 10, 11, 12, 13, 15],
             Call::Run => &[0, 1, 8, 10, 11, 12, 13, 15, 16],
             Call::Trace => &[0, 2, 3, 4, 5, 6, 7, 10, 11, 12, 13, 15, 17, 18, 19],
@@ -56,8 +58,13 @@ impl Call {
 }
 
 const REPLIES: usize = 21;
-/// The reply that cannot be met.
-const STUCK: usize = 14;
+/// The number that is reserved: no call gives it.
+const RESERVED: usize = 14;
+
+/// The numbers that calls give.
+fn replies() -> impl Iterator<Item = usize> {
+    (0..REPLIES).filter(|&reply| reply != RESERVED)
+}
 
 /// The rule that decides between visible messages.
 #[derive(Clone, Copy, Debug, PartialEq, Eq)]
@@ -128,6 +135,7 @@ pub struct Counts {
     /// Texts refused with 4, 5 and 6 for a row after one that goes back: of its own agent, and of an
     /// earlier one.
     after_back: [[u64; 2]; 3],
+    pub picks: Picks,
 }
 
 impl Counts {
@@ -224,7 +232,7 @@ impl Counts {
             }
         };
         at_least("cases".to_string(), self.cases, 100_000);
-        for reply in (0..REPLIES).filter(|&reply| reply != STUCK) {
+        for reply in replies() {
             at_least(format!("reply {reply}"), self.of_reply(reply), 500);
         }
         for call in CALLS {
@@ -234,7 +242,7 @@ impl Counts {
                 let floor = match (call, LINE_REPLIES.contains(&reply)) {
                     (Call::Read, true) => 1_000,
                     (_, true) => 20,
-                    (Call::Write, false) => 500,
+                    (Call::Write | Call::Pick, false) => 500,
                     (_, false) => 5,
                 };
                 at_least(format!("reply {reply} of {call:?}"), count, floor);
@@ -280,6 +288,9 @@ impl Counts {
                 at_least(what, count, 150);
             }
         }
+        for (what, count, floor) in self.picks.floors() {
+            at_least(what, count, floor);
+        }
         short
     }
 }
@@ -292,7 +303,7 @@ impl fmt::Display for Counts {
             write!(f, "{:>9}", format!("{call:?}").to_lowercase())?;
         }
         writeln!(f, "{:>9}", "all")?;
-        for reply in 0..REPLIES {
+        for reply in replies() {
             write!(f, "{reply:>5}")?;
             for call in CALLS {
                 match self.replies[call as usize][reply] {
@@ -302,15 +313,6 @@ impl fmt::Display for Counts {
             }
             writeln!(f, "{:>9}", self.of_reply(reply))?;
         }
-        writeln!(f, "Reply 14 cannot be met. It is tested in states that fit their table, so the")?;
-        writeln!(
-            f,
-            "clock is not above the least late of the unfinished agents, and the agent of"
-        )?;
-        writeln!(
-            f,
-            "that late can be run at the greater of the clock and its early, which is below."
-        )?;
         writeln!(f, "{} tables written and read again:", self.written.iter().sum::<u64>())?;
         let of_kind = Kind::ALL.map(|kind| format!("{kind:?} {}", self.written[kind as usize]));
         writeln!(f, "{}", of_kind.join(", "))?;
@@ -341,6 +343,10 @@ impl fmt::Display for Counts {
         writeln!(f, "{} rows told with 7 that no path reaches", self.unreached)?;
         let [field, target, window] = self.after_back;
         writeln!(f, "after a row that goes back, of its own agent and of an earlier one:")?;
-        writeln!(f, "reply 4 {field:?}, 5 {target:?}, 6 {window:?}")
+        writeln!(f, "reply 4 {field:?}, 5 {target:?}, 6 {window:?}")?;
+        for (what, count, _) in self.picks.floors() {
+            writeln!(f, "{count} {what}")?;
+        }
+        Ok(())
     }
 }

@@ -14,6 +14,7 @@ use crate::damage::{damage_state, damage_table};
 use crate::layout;
 use crate::lent::Lent;
 use crate::lines::damage_text;
+use crate::picks::{by_picks_case, pick_case};
 use crate::rng::Rng;
 use crate::tables::{fitting_state, table, Size};
 use crate::texts::{choice_lines, damaged, text};
@@ -30,10 +31,12 @@ pub enum Kind {
     Pair,
     Trace,
     Write,
+    Pick,
+    ByPicks,
 }
 
 impl Kind {
-    pub const ALL: [Kind; 9] = [
+    pub const ALL: [Kind; 11] = [
         Kind::Read,
         Kind::Check,
         Kind::Start,
@@ -43,6 +46,8 @@ impl Kind {
         Kind::Pair,
         Kind::Trace,
         Kind::Write,
+        Kind::Pick,
+        Kind::ByPicks,
     ];
 }
 
@@ -63,6 +68,8 @@ impl Default for Plan {
             (Kind::Pair, 2_000),
             (Kind::Trace, 2_000),
             (Kind::Write, 16_000),
+            (Kind::Pick, 24_000),
+            (Kind::ByPicks, 2_000),
         ])
     }
 }
@@ -115,16 +122,22 @@ pub fn compare_one(
         Kind::Pair => pair_case(rng, board, counts),
         Kind::Trace => trace_case(rng, board, counts),
         Kind::Write => write_case(rng, board, counts),
+        Kind::Pick => pick_case(rng, board, counts),
+        Kind::ByPicks => by_picks_case(rng, board, counts),
     };
     table
         .and_then(|table| written_and_read(rng, board, counts, kind, &table))
         .map_err(|what| Failure { seed, kind, index, what })
 }
 
-type Outcome<T = ()> = Result<T, String>;
+pub(crate) type Outcome<T = ()> = Result<T, String>;
 
 /// Demands that what the board gave is what was expected.
-fn same<T: PartialEq + fmt::Debug + ?Sized>(what: &str, expected: &T, got: &T) -> Outcome {
+pub(crate) fn same<T: PartialEq + fmt::Debug + ?Sized>(
+    what: &str,
+    expected: &T,
+    got: &T,
+) -> Outcome {
     if expected == got {
         return Ok(());
     }
@@ -132,7 +145,7 @@ fn same<T: PartialEq + fmt::Debug + ?Sized>(what: &str, expected: &T, got: &T) -
 }
 
 /// Demands that the board left the reference's memory.
-fn same_memory<T>(what: &str, expected: &Lent<T>, got: &Lent<T>) -> Outcome
+pub(crate) fn same_memory<T>(what: &str, expected: &Lent<T>, got: &Lent<T>) -> Outcome
 where
     T: PartialEq + fmt::Display,
 {
@@ -143,17 +156,17 @@ where
 }
 
 /// The words that are not 0, each after its place.
-fn listed(words: &[u32]) -> String {
+pub(crate) fn listed(words: &[u32]) -> String {
     let places = words.iter().enumerate().filter(|(_, &word)| word != 0);
     places.map(|(at, word)| format!("{at}:{word} ")).collect()
 }
 
-fn any_size(rng: &mut Rng) -> Size {
+pub(crate) fn any_size(rng: &mut Rng) -> Size {
     rng.pick(&[Size::Small, Size::Small, Size::Small, Size::Any, Size::Long])
 }
 
 /// A table and its lent words, damaged in `parts` of 100.
-fn lent_table(rng: &mut Rng, size: Size, parts: usize) -> (Table, Lent) {
+pub(crate) fn lent_table(rng: &mut Rng, size: Size, parts: usize) -> (Table, Lent) {
     let table = table(rng, size);
     let mut words = table.to_words();
     if rng.percent(parts) {
@@ -299,7 +312,7 @@ fn start_case(rng: &mut Rng, board: &dyn Board, counts: &mut Counts) -> Outcome<
 }
 
 /// A state that some run reaches.
-fn reached_state(rng: &mut Rng, table: &Table) -> State {
+pub(crate) fn reached_state(rng: &mut Rng, table: &Table) -> State {
     let mut state = State::start(table);
     for _ in 0..rng.below(40) {
         let Some((agent, time)) = accepted(rng, table, &state, Order::Random) else { break };

@@ -29,7 +29,7 @@ fn a_comparison_of_nothing_is_below_every_floor() {
     let counts = compare(&Quick, &Plan(vec![]), 1).unwrap();
     let short = counts.below_floors();
     // Every floor there is: one that is taken away, or added, changes the number.
-    assert_eq!(short.len(), 147);
+    assert_eq!(short.len(), 174);
     for kind in Kind::ALL {
         for what in ["written and read again", "that document 01 refused with 7"] {
             let what = format!("tables of {kind:?} cases {what}: 0, ");

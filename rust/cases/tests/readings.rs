@@ -116,6 +116,9 @@ impl Board for Reader {
     fn start(&self, table: &[u32], state: &mut [u32]) -> u32 {
         reference::start(table, state)
     }
+    fn pick(&self, table: &[u32], state: &[u32]) -> (u32, u32, u32) {
+        reference::pick(table, state)
+    }
     fn step(&self, table: &[u32], state: &mut [u32], agent: u32, time: u32) -> u32 {
         reference::step(table, state, agent, time)
     }

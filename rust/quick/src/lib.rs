@@ -1,4 +1,4 @@
-//! Document 01, as change requests T-01 to T-03 leave it, in optimised Rust that does not allocate:
+//! Document 01, as change requests T-01 to T-04 leave it, in optimised Rust that does not allocate:
 //! what the benchmark measures the proved library against. `cases` compares it with the reference.
 //!
 //! It works on the lent words where they stand and tests many words without a branch for each. Its
@@ -10,6 +10,7 @@
 #![no_std]
 
 mod digits;
+mod fit;
 mod reader;
 mod steps;
 mod table;
@@ -17,7 +18,7 @@ mod trace;
 mod writer;
 
 pub use reader::read;
-pub use steps::{run, run_narrow, start, step, step_narrow};
+pub use steps::{pick, run, run_narrow, start, step, step_narrow};
 pub use table::check;
 pub use trace::{trace, OUTPUT_BYTES};
 pub use writer::write;

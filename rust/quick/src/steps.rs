@@ -1,8 +1,9 @@
-//! The words of a state; start, step and run.
+//! The words of a state; start, pick, step and run.
 
+use crate::fit::View;
 use crate::reply::*;
-use crate::table::{checked, Row, Table, SEND};
-use crate::{any_set, AGENTS, LAST_TIME, ROWS, STATE_WORDS, TABLE_WORDS};
+use crate::table::{checked, Row, Table};
+use crate::{AGENTS, ROWS, STATE_WORDS, TABLE_WORDS};
 
 /// The parts of a state's words.
 pub struct State<'a> {
@@ -36,41 +37,6 @@ impl<'a> State<'a> {
         State::of(words)
     }
 
-    fn fits(&self, table: &Table) -> bool {
-        let agents = table.agents;
-        if self.clock.wrapping_sub(1) >= LAST_TIME
-            || any_set(&self.positions[agents..])
-            || any_set(self.registers[agents..].as_flattened())
-            || any_set(self.marks[agents..].as_flattened())
-            || any_set(self.values[agents..].as_flattened())
-        {
-            return false;
-        }
-        for (a, &count) in table.counts[..agents].iter().enumerate() {
-            let position = self.positions[a];
-            if position > count {
-                return false;
-            }
-            let passed = position as usize;
-            let rows = table.places(a);
-            if position < count && *self.clock > rows[passed][3] {
-                return false;
-            }
-            let (marks, no_marks) = self.marks[a].split_at(passed);
-            let (values, no_values) = self.values[a].split_at(passed);
-            let mut bad = any_set(no_marks) | any_set(no_values);
-            for ((&mark, &value), &[code, ..]) in marks.iter().zip(values).zip(rows) {
-                let marked = (mark == 1) & (code >> 24 == SEND);
-                let unmarked = (mark == 0) & (value == 0);
-                bad |= !(marked | unmarked);
-            }
-            if bad {
-                return false;
-            }
-        }
-        true
-    }
-
     /// The value of the best message visible to this row.
     ///
     /// It walks every place of each agent, as document 01's executive does; with NARROW only the rows
@@ -95,6 +61,11 @@ impl<'a> State<'a> {
         best
     }
 
+    /// The lates of the agents' current rows.
+    pub fn lates(&self, table: &Table) -> Lates {
+        Lates::of(table, self.positions)
+    }
+
     /// An agent's position and registers.
     pub fn agent(&self, a: usize) -> (u32, [u32; 4]) {
         (self.positions[a], self.registers[a])
@@ -106,11 +77,11 @@ impl<'a> State<'a> {
 pub struct Lates([u32; AGENTS]);
 
 impl Lates {
-    pub fn of(table: &Table, state: &State) -> Lates {
+    fn of(table: &Table, positions: &[u32; AGENTS]) -> Lates {
         let mut lates = [u32::MAX; AGENTS];
         for (a, late) in lates.iter_mut().enumerate().take(table.agents) {
-            if state.positions[a] < table.counts[a] {
-                *late = table.places(a)[state.positions[a] as usize][3];
+            if positions[a] < table.counts[a] {
+                *late = table.places(a)[positions[a] as usize][3];
             }
         }
         Lates(lates)
@@ -119,12 +90,18 @@ impl Lates {
     fn deadline(&self) -> u32 {
         self.0.iter().fold(u32::MAX, |least, &late| least.min(late))
     }
+
+    /// The lowest of the agents that have the least late; none once all have ended.
+    fn first(&self) -> Option<usize> {
+        let least = self.deadline();
+        if least == u32::MAX {
+            return None;
+        }
+        self.0.iter().position(|&late| late == least)
+    }
 }
 
 /// One step of a state that fits its table.
-///
-/// Reply 14 is not tested for: of the unfinished agents the one of least late can be run at the
-/// greater of the clock and its early, so it is never given.
 #[inline(always)]
 pub fn take<const NARROW: bool>(
     table: &Table,
@@ -205,11 +182,11 @@ fn any_step<const NARROW: bool>(table: &[u32], state: &mut [u32], agent: u32, ti
     let Some(table) = checked(words) else {
         return BAD_TABLE;
     };
-    let mut state = State::of(state);
-    if !state.fits(&table) {
+    if !View::of(state).fits(&table) {
         return BAD_STATE;
     }
-    let mut lates = Lates::of(&table, &state);
+    let mut state = State::of(state);
+    let mut lates = state.lates(&table);
     take::<NARROW>(&table, &mut state, &mut lates, agent, time)
 }
 
@@ -225,7 +202,7 @@ fn any_run<const NARROW: bool>(table: &[u32], state: &mut [u32], choices: &[u32]
         return (BAD_TABLE, 0);
     };
     let mut state = State::start(state, &table);
-    let mut lates = Lates::of(&table, &state);
+    let mut lates = state.lates(&table);
     let mut count = 0;
     for &[agent, time] in choices {
         let reply = take::<NARROW>(&table, &mut state, &mut lates, agent, time);
@@ -235,6 +212,26 @@ fn any_run<const NARROW: bool>(table: &[u32], state: &mut [u32], choices: &[u32]
         count += 1;
     }
     (ACCEPTED, count)
+}
+
+/// Picks a choice that a step accepts: reply, agent and time.
+pub fn pick(table: &[u32], state: &[u32]) -> (u32, u32, u32) {
+    let (Some(words), Some(state)) = (table.first_chunk::<TABLE_WORDS>(), state.first_chunk())
+    else {
+        return (BUFFER_TOO_SHORT, 0, 0);
+    };
+    let Some(table) = checked(words) else {
+        return (BAD_TABLE, 0, 0);
+    };
+    let state = View::of(state);
+    if !state.fits(&table) {
+        return (BAD_STATE, 0, 0);
+    }
+    let Some(a) = Lates::of(&table, state.positions).first() else {
+        return (AGENT_ENDED, 0, 0);
+    };
+    let [_, _, early, _] = table.places(a)[state.positions[a] as usize % ROWS];
+    (ACCEPTED, a as u32, early.max(state.clock))
 }
 
 /// One step.

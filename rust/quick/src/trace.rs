@@ -3,7 +3,7 @@
 use crate::digits::digits;
 use crate::reader::{digit_line, line_refusal, read};
 use crate::reply::*;
-use crate::steps::{take, Lates, State};
+use crate::steps::{take, State};
 use crate::table::Table;
 use crate::{STATE_WORDS, TABLE_WORDS};
 
@@ -92,7 +92,7 @@ pub fn trace(input: &[u8], output: &mut [u8; OUTPUT_BYTES]) -> usize {
     }
     let mut state = [0; STATE_WORDS];
     let mut state = State::start(&mut state, &table);
-    let mut lates = Lates::of(&table, &state);
+    let mut lates = state.lates(&table);
     let mut count = 0;
     for (agent, time) in choices.chunks(CHOICE_LINE).filter_map(choice) {
         let reply = take::<false>(&table, &mut state, &mut lates, agent, time);

@@ -59,6 +59,11 @@ impl Board for Archive {
         tannoplex::start(table, state).number()
     }
 
+    fn pick(&self, table: &[u32], state: &[u32]) -> (u32, u32, u32) {
+        let picked = tannoplex::pick(table, state);
+        (picked.reply.number(), picked.agent, picked.time)
+    }
+
     fn step(&self, table: &[u32], state: &mut [u32], agent: u32, time: u32) -> u32 {
         tannoplex::step(table, state, agent, time).number()
     }

@@ -1,4 +1,4 @@
-//! States: their words, start, step and run.
+//! States: their words, start, pick, step and run.
 
 use std::cmp::Reverse;
 
@@ -135,7 +135,20 @@ impl State {
         (0..self.agents.len()).filter(|&a| self.times(table, a).is_some()).collect()
     }
 
-    /// The reply to a choice: the first of 10 to 15 that holds, else 0.
+    /// The choice to be picked: of the unfinished agents the one whose current row has the least late,
+    /// of several the lowest, at the later of the clock and that row's early. None once all have ended.
+    pub fn picked(&self, table: &Table) -> Option<(u32, u32)> {
+        let mut picked: Option<(usize, Row)> = None;
+        for a in 0..self.agents.len() {
+            let Some(row) = self.current_row(table, a) else { continue };
+            if picked.is_none_or(|(_, other)| row.late < other.late) {
+                picked = Some((a, row));
+            }
+        }
+        picked.map(|(a, row)| (a as u32, self.clock.max(row.early)))
+    }
+
+    /// The reply to a choice: the first of 10 to 13 and 15 that holds, else 0.
     pub fn choice_reply(&self, table: &Table, agent: u32, time: u32) -> u32 {
         let a = agent as usize;
         if a >= self.agents.len() {
@@ -149,9 +162,6 @@ impl State {
         }
         if time < row.early {
             return TIME_BELOW_EARLY;
-        }
-        if self.ready(table).is_empty() {
-            return STUCK;
         }
         if self.deadline(table).is_some_and(|late| time > late) {
             return TIME_ABOVE_LATE;
@@ -235,7 +245,25 @@ pub fn start(table: &[u32], state: &mut [u32]) -> u32 {
     ACCEPTED
 }
 
-/// One step: 1, 8, 9, then 10 to 15, else 0.
+/// Picks a choice: 0 with an agent and a time; 1, 8, 9, then 11 where all agents have ended, with 0
+/// and 0.
+pub fn pick(table: &[u32], state: &[u32]) -> (u32, u32, u32) {
+    if table.len() < TABLE_WORDS || state.len() < STATE_WORDS {
+        return (BUFFER_TOO_SHORT, 0, 0);
+    }
+    let Some(table) = Table::from_words(table) else {
+        return (BAD_TABLE, 0, 0);
+    };
+    let Some(record) = State::from_words(&table, state) else {
+        return (BAD_STATE, 0, 0);
+    };
+    match record.picked(&table) {
+        None => (AGENT_ENDED, 0, 0),
+        Some((agent, time)) => (ACCEPTED, agent, time),
+    }
+}
+
+/// One step: 1, 8, 9, then 10 to 13 and 15, else 0.
 pub fn step(table: &[u32], state: &mut [u32], agent: u32, time: u32) -> u32 {
     if table.len() < TABLE_WORDS || state.len() < STATE_WORDS {
         return BUFFER_TOO_SHORT;

@@ -1,4 +1,4 @@
-//! Document 01 once more, as change requests T-01 to T-03 of document 02 leave it, in plain Rust,
+//! Document 01 once more, as change requests T-01 to T-04 of document 02 leave it, in plain Rust,
 //! written from the papers alone.
 //!
 //! It is here to be compared with the proved library, so it is direct and not quick: words are
@@ -12,7 +12,7 @@ pub mod table;
 pub mod trace;
 pub mod writer;
 
-pub use executive::{fits, run, start, step, State};
+pub use executive::{fits, pick, run, start, step, State};
 pub use reader::read;
 pub use table::{check, Agent, Row, Table};
 pub use trace::trace;

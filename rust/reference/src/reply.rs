@@ -14,7 +14,7 @@ pub const NO_SUCH_AGENT: u32 = 10;
 pub const AGENT_ENDED: u32 = 11;
 pub const TIME_BELOW_CLOCK: u32 = 12;
 pub const TIME_BELOW_EARLY: u32 = 13;
-pub const STUCK: u32 = 14;
+// 14 is reserved: T-04 has shown that it cannot be met.
 pub const TIME_ABOVE_LATE: u32 = 15;
 pub const ODD_CHOICES: u32 = 16;
 pub const INPUT_TOO_LONG: u32 = 17;

@@ -4,7 +4,7 @@ use std::path::Path;
 
 use reference::reader::{lines, table_of_text};
 use reference::reply::WINDOW_GOES_BACK;
-use reference::{trace, Row};
+use reference::{trace, Row, State};
 
 /// Cargo runs a test in its package's folder.
 fn file(name: &str) -> String {
@@ -29,6 +29,22 @@ fn each_arm_is_run_in_the_same_time() {
     let rows = &table_of_text(table.as_bytes()).unwrap().agents[0].rows;
     let window = |i: usize| (rows[i].early, rows[i].late);
     assert_eq!((window(1), window(2)), (window(4), window(5)));
+}
+
+#[test]
+fn what_is_picked_runs_each_arm_as_its_choices_do() {
+    let table = file("arms.table");
+    let without_power = table.replacen('1', "0", 1);
+    for (text, choices) in [(table, "power.choices"), (without_power, "no-power.choices")] {
+        let table = table_of_text(text.as_bytes()).unwrap();
+        let mut state = State::start(&table);
+        let mut picked = String::new();
+        while let Some((agent, time)) = state.picked(&table) {
+            assert_eq!(state.step(&table, agent, time), 0);
+            picked += &format!("02{agent:02X}{time:08X}\n");
+        }
+        assert_eq!(picked, file(choices));
+    }
 }
 
 #[test]

@@ -1,4 +1,5 @@
-//! The shop's files are what `examples/shop/README.md` says of them.
+//! The shop's files are what `examples/shop/README.md` says of them, and what is picked are the choices
+//! that are stored as the lowest first.
 
 use std::path::Path;
 
@@ -35,6 +36,20 @@ fn granted(table: &Table, choices: &[(u32, u32)], picked: fn(&[usize]) -> usize)
         ports.iter().filter(|port| port.registers[3] == 1).map(|port| port.registers[0]).collect();
     assert_eq!(powered, [power.registers[0]]);
     power.registers[0]
+}
+
+#[test]
+fn the_lowest_first_is_what_is_picked() {
+    for (order, rows) in [("number-order", 86), ("text-order", 86)] {
+        let table = table(&format!("{order}.table"));
+        assert_eq!(table.agents.iter().map(|agent| agent.rows.len()).sum::<usize>(), rows);
+        let mut state = State::start(&table);
+        for choice in choices(&format!("{order}-lowest-first.choices")) {
+            assert_eq!(state.picked(&table), Some(choice));
+            assert_eq!(state.step(&table, choice.0, choice.1), 0);
+        }
+        assert_eq!(state.picked(&table), None);
+    }
 }
 
 #[test]

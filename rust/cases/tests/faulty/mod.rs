@@ -18,6 +18,9 @@ impl Board for Quick {
     fn start(&self, table: &[u32], state: &mut [u32]) -> u32 {
         quick::start(table, state)
     }
+    fn pick(&self, table: &[u32], state: &[u32]) -> Picked {
+        quick::pick(table, state)
+    }
     fn step(&self, table: &[u32], state: &mut [u32], agent: u32, time: u32) -> u32 {
         quick::step(table, state, agent, time)
     }
@@ -33,6 +36,8 @@ impl Board for Quick {
 
 /// A reply with a line, a length or a count.
 pub type Told = (u32, u32);
+/// A reply with an agent and a time.
+pub type Picked = (u32, u32, u32);
 
 type Step<'f> = dyn Fn(&[u32], &mut [u32], u32, u32) -> u32 + 'f;
 type Run<'f> = dyn Fn(&[u32], &mut [u32], &[u32]) -> Told + 'f;
@@ -43,6 +48,7 @@ pub struct Faulty<'f> {
     pub write: &'f dyn Fn(&[u32], &mut [u8]) -> Told,
     pub check: &'f dyn Fn(&[u32]) -> u32,
     pub start: &'f dyn Fn(&[u32], &mut [u32]) -> u32,
+    pub pick: &'f dyn Fn(&[u32], &[u32]) -> Picked,
     pub step: &'f Step<'f>,
     pub run: &'f Run<'f>,
     pub trace: &'f dyn Fn(&[u8]) -> Vec<u8>,
@@ -53,6 +59,7 @@ pub const GOOD: Faulty = Faulty {
     write: &quick::write,
     check: &quick::check,
     start: &quick::start,
+    pick: &quick::pick,
     step: &quick::step,
     run: &quick::run,
     trace: &|input| Quick.trace(input),
@@ -70,6 +77,9 @@ impl Board for Faulty<'_> {
     }
     fn start(&self, table: &[u32], state: &mut [u32]) -> u32 {
         (self.start)(table, state)
+    }
+    fn pick(&self, table: &[u32], state: &[u32]) -> Picked {
+        (self.pick)(table, state)
     }
     fn step(&self, table: &[u32], state: &mut [u32], agent: u32, time: u32) -> u32 {
         (self.step)(table, state, agent, time)
