@@ -73,6 +73,13 @@
  *   above those of every row that it can go on to: of two rows where it is a SKIP or a RECV, and
  *   also where no run comes to it. The end has no window. So two arms of a branch may share the
  *   same time, whichever of them comes first in the table.
+ *
+ * Getting to the end
+ *   A state that fits its table is never stuck: while any agent has not ended some choice is
+ *   accepted, and tannoplex_pick gives one. Every accepted step brings its agent nearer to the end,
+ *   so no list of accepted choices is longer than the table has rows. A loop that steps some accepted
+ *   choice while there is one, whichever it takes, ends all agents in no more steps than that: it
+ *   needs no way out for the case that nothing can be run, and no count of its own to stop it.
  */
 #ifndef TANNOPLEX_H
 #define TANNOPLEX_H
@@ -86,9 +93,9 @@ extern "C" {
 
 /* The version: the numbers for #if, and the text of them. CHANGELOG.md says what each brought. */
 #define TANNOPLEX_VERSION_MAJOR 0
-#define TANNOPLEX_VERSION_MINOR 5
+#define TANNOPLEX_VERSION_MINOR 6
 #define TANNOPLEX_VERSION_PATCH 0
-#define TANNOPLEX_VERSION "0.5.0"
+#define TANNOPLEX_VERSION "0.6.0"
 
 /* Sizes. */
 #define TANNOPLEX_TABLE_WORDS 2129
@@ -214,6 +221,10 @@ typedef struct { uint32_t reply, line; } tannoplex_told;
    was too long; 0 with TANNOPLEX_BUFFER_TOO_SHORT and TANNOPLEX_BAD_TABLE. */
 typedef struct { uint32_t reply, length; } tannoplex_wrote;
 
+/* What tannoplex_pick answers: a reply, and the agent and the time that it picked; 0 and 0 with a
+   refusal. */
+typedef struct { uint32_t reply, agent, time; } tannoplex_picked;
+
 /* What tannoplex_run answers: a reply, and how many steps were accepted before it. */
 typedef struct { uint32_t reply, count; } tannoplex_ran;
 
@@ -261,10 +272,25 @@ uint32_t tannoplex_start(const uint32_t *table, size_t table_len, uint32_t *stat
                          size_t state_len);
 
 /*
+ * Picks a choice that tannoplex_step accepts: of the agents that have not ended the one whose row has
+ * the least late, of several the lowest, at the later of the clock and the early of that row. Nothing
+ * is written. Where it is accepted, tannoplex_step with this agent and this time on the same words
+ * replies 0. From the start state this loop runs any accepted table to its end, in no more steps than
+ * it has rows:
+ *     while ((picked = tannoplex_pick(table, table_len, state, state_len)).reply == 0)
+ *         tannoplex_step(table, table_len, state, state_len, picked.agent, picked.time);
+ * It is one order of many: what each agent passes through does not depend on what is picked.
+ * Replies: 1, 8, 9, then 11 where all agents have ended.
+ */
+tannoplex_picked tannoplex_pick(const uint32_t *table, size_t table_len, const uint32_t *state,
+                                size_t state_len);
+
+/*
  * One step. The choice is accepted exactly when the agent exists and has not ended, the time is not
  * below the clock, not below the early of the agent's row, and not above the late of the row of any
  * agent that has not ended. Then the row takes effect and the clock becomes the time.
- * Replies: 1, 8, 9, then 10 to 15 in that order.
+ * While any agent has not ended some choice is accepted; tannoplex_pick gives one.
+ * Replies: 1, 8, 9, then 10, 11, 12, 13 and 15 in that order.
  */
 uint32_t tannoplex_step(const uint32_t *table, size_t table_len, uint32_t *state,
                         size_t state_len, uint32_t agent, uint32_t time);
@@ -272,7 +298,8 @@ uint32_t tannoplex_step(const uint32_t *table, size_t table_len, uint32_t *state
 /*
  * A run from the start state: what the state buffer holds beforehand is of no account. A choice is
  * two words, agent and then time. The run stops at the first refusal.
- * Replies: 1, 16, 8, with count 0; then each step's 10 to 15. An empty list leaves the start state.
+ * Replies: 1, 16, 8, with count 0; then each step's 10 to 13 and 15. An empty list leaves the start
+ * state.
  */
 tannoplex_ran tannoplex_run(const uint32_t *table, size_t table_len, uint32_t *state,
                             size_t state_len, const uint32_t *choices, size_t choices_len);

@@ -11,7 +11,8 @@
 extern "C" {
 #endif
 
-/* The words of a reply's number; "unknown reply" where there is no such reply, never NULL. */
+/* The words of a reply's number, or of the one that is reserved; "unknown reply" for any other, never
+   NULL. */
 const char *tannoplex_reply_text(uint32_t reply);
 
 #ifdef __cplusplus

@@ -12,7 +12,7 @@
 
 #include "tannoplex.h"
 
-enum { READ, CHECK, START, STEP, RUN, TRACE, WRITE };
+enum { READ, CHECK, START, STEP, RUN, TRACE, WRITE, PICK };
 
 /* What comes before the memory. Numbers are low byte first. */
 struct call {
@@ -23,9 +23,9 @@ struct call {
     uint64_t size;      /* of the memory, in bytes */
 };
 
-/* What goes before the memory: a reply, and the line, count or length. */
+/* What goes before the memory: a reply, the line, count, length or agent, and the time. */
 struct answer {
-    uint64_t reply, more;
+    uint64_t reply, more, time;
 };
 
 static void need(int good, const char *what)
@@ -69,7 +69,7 @@ static struct answer answer_to(const struct call *call, char *memory)
         words[i] = bytes[i] / sizeof(uint32_t);
     }
 
-    struct answer answer = {0, 0};
+    struct answer answer = {0, 0, 0};
     switch (call->function) {
     case READ: {
         tannoplex_told told = tannoplex_read(lent[0], bytes[0], lent[1], words[1]);
@@ -102,6 +102,13 @@ static struct answer answer_to(const struct call *call, char *memory)
         tannoplex_wrote wrote = tannoplex_write(lent[0], words[0], lent[1], bytes[1]);
         answer.reply = wrote.reply;
         answer.more = wrote.length;
+        break;
+    }
+    case PICK: {
+        tannoplex_picked picked = tannoplex_pick(lent[0], words[0], lent[2], words[2]);
+        answer.reply = picked.reply;
+        answer.more = picked.agent;
+        answer.time = picked.time;
         break;
     }
     default:

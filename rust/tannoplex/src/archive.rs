@@ -16,6 +16,15 @@ pub struct Wrote {
     pub length: u32,
 }
 
+/// `tannoplex_picked`.
+#[repr(C)]
+#[derive(Clone, Copy)]
+pub struct Picked {
+    pub reply: u32,
+    pub agent: u32,
+    pub time: u32,
+}
+
 /// `tannoplex_ran`.
 #[repr(C)]
 #[derive(Clone, Copy)]
@@ -60,6 +69,13 @@ extern "C" {
         state: *mut u32,
         state_len: usize,
     ) -> u32;
+
+    pub fn tannoplex_pick(
+        table: *const u32,
+        table_len: usize,
+        state: *const u32,
+        state_len: usize,
+    ) -> Picked;
 
     pub fn tannoplex_step(
         table: *const u32,
@@ -123,6 +139,12 @@ mod tests {
             assert_eq!(tannoplex_check(null(), 0), 1);
             assert_eq!(tannoplex_start(null(), 0, state.as_mut_ptr(), state_words), 1);
             assert_eq!(tannoplex_start(table.as_ptr(), words, null_mut(), 0), 1);
+            let picked = tannoplex_pick(null(), 0, null(), 0);
+            assert_eq!((picked.reply, picked.agent, picked.time), (1, 0, 0));
+            let picked = tannoplex_pick(null(), 0, state.as_ptr(), state_words);
+            assert_eq!((picked.reply, picked.agent, picked.time), (1, 0, 0));
+            let picked = tannoplex_pick(table.as_ptr(), words, null(), 0);
+            assert_eq!((picked.reply, picked.agent, picked.time), (1, 0, 0));
             assert_eq!(tannoplex_step(null(), 0, state.as_mut_ptr(), state_words, 0, 1), 1);
             assert_eq!(tannoplex_step(table.as_ptr(), words, null_mut(), 0, 0, 1), 1);
             assert_eq!(state, [5; crate::STATE_WORDS]);

@@ -2,8 +2,8 @@
 //!
 //! One process for all threads, `bridge.c` linked with the archive, runs under the toolchain's
 //! emulator from the first call on. A call sends it a memory with copies of the lent buffers among
-//! guard bytes, and gets it back as the archive left it: one buffer may have been written, and
-//! nothing else.
+//! guard bytes, and gets it back as the archive left it: one buffer at most may have been written,
+//! and nothing else.
 //!
 //! They have the archive's names too, for the C tests that `emulated-archive` is linked with. A call
 //! that cannot be handed over ends the process: there is no reply for it.
@@ -13,7 +13,7 @@ use std::process::{Child, ChildStdin, ChildStdout, Command, Stdio};
 use std::slice;
 use std::sync::Mutex;
 
-use crate::archive::{Ran, Told, Traced, Wrote};
+use crate::archive::{Picked, Ran, Told, Traced, Wrote};
 
 #[cfg(not(target_endian = "little"))]
 compile_error!("words go to the emulated archive as they lie in memory, low byte first");
@@ -46,13 +46,21 @@ impl Bridge {
         Bridge { program, calls, answers }
     }
 
-    fn exchange(&mut self, call: &[u8], memory: &mut [u8]) -> io::Result<[u64; 2]> {
+    fn exchange(&mut self, call: &[u8], memory: &mut [u8]) -> io::Result<Answer> {
         self.calls.write_all(call)?;
-        let mut answer = [[0; 8]; 2];
+        let mut answer = [[0; 8]; 3];
         self.answers.read_exact(answer.as_flattened_mut())?;
         self.answers.read_exact(memory)?;
-        Ok(answer.map(u64::from_le_bytes))
+        let [reply, more, time] = answer.map(u64::from_le_bytes);
+        Ok(Answer { reply: reply as u32, more, time: time as u32 })
     }
+}
+
+/// What a function answers: a reply, the line, count, length or agent, and the time.
+struct Answer {
+    reply: u32,
+    more: u64,
+    time: u32,
 }
 
 /// The functions, by their numbers in `bridge.c`.
@@ -65,6 +73,7 @@ enum Function {
     Run,
     Trace,
     Write,
+    Pick,
 }
 
 /// A lent buffer: its pointer, which may be NULL, and its length in bytes.
@@ -82,7 +91,7 @@ impl Lent {
     }
 }
 
-/// Has a function called, and gives its reply and its line, count or length.
+/// Has a function called, and gives what it answers.
 ///
 /// # Safety
 ///
@@ -94,7 +103,7 @@ unsafe fn call(
     written: Lent,
     third: Lent,
     [agent, time]: [u32; 2],
-) -> (u32, u64) {
+) -> Answer {
     let lent = [&first, &written, &third];
     let mut memory = vec![GUARD_BYTE; GUARD];
     let mut nulls = 0;
@@ -124,7 +133,7 @@ unsafe fn call(
     let mut left = vec![0; memory.len()];
     let mut running = RUNNING.lock().expect("the emulated libboard.a failed in another thread");
     let bridge = running.get_or_insert_with(Bridge::start);
-    let [reply, more] = bridge.exchange(&sent, &mut left).unwrap_or_else(|error| {
+    let answer = bridge.exchange(&sent, &mut left).unwrap_or_else(|error| {
         let ended = bridge.program.wait().map_or_else(|e| e.to_string(), |s| s.to_string());
         panic!("the emulated libboard.a is gone in {function:?}: {error}; it ended with {ended}")
     });
@@ -137,7 +146,7 @@ unsafe fn call(
         // SAFETY: a buffer that is not empty is good for writes, and overlaps no `Vec`.
         unsafe { written.0.copy_from_nonoverlapping(left[begin..end].as_ptr(), written.1) };
     }
-    (reply as u32, more)
+    answer
 }
 
 #[no_mangle]
@@ -149,8 +158,8 @@ pub unsafe extern "C" fn tannoplex_read(
 ) -> Told {
     let (text, table) = (Lent::bytes(text, text_len), Lent::words(table, table_len));
     // SAFETY: the caller lends what the archive's function asks for, and so it is below.
-    let (reply, line) = unsafe { call(Function::Read, text, table, Lent::NONE, [0, 0]) };
-    Told { reply, line: line as u32 }
+    let answer = unsafe { call(Function::Read, text, table, Lent::NONE, [0, 0]) };
+    Told { reply: answer.reply, line: answer.more as u32 }
 }
 
 #[no_mangle]
@@ -161,14 +170,14 @@ pub unsafe extern "C" fn tannoplex_write(
     text_len: usize,
 ) -> Wrote {
     let (table, text) = (Lent::words(table, table_len), Lent::bytes(text, text_len));
-    let (reply, length) = unsafe { call(Function::Write, table, text, Lent::NONE, [0, 0]) };
-    Wrote { reply, length: length as u32 }
+    let answer = unsafe { call(Function::Write, table, text, Lent::NONE, [0, 0]) };
+    Wrote { reply: answer.reply, length: answer.more as u32 }
 }
 
 #[no_mangle]
 pub unsafe extern "C" fn tannoplex_check(table: *const u32, table_len: usize) -> u32 {
     let table = Lent::words(table, table_len);
-    unsafe { call(Function::Check, table, Lent::NONE, Lent::NONE, [0, 0]) }.0
+    unsafe { call(Function::Check, table, Lent::NONE, Lent::NONE, [0, 0]) }.reply
 }
 
 #[no_mangle]
@@ -179,7 +188,20 @@ pub unsafe extern "C" fn tannoplex_start(
     state_len: usize,
 ) -> u32 {
     let (table, state) = (Lent::words(table, table_len), Lent::words(state, state_len));
-    unsafe { call(Function::Start, table, state, Lent::NONE, [0, 0]) }.0
+    unsafe { call(Function::Start, table, state, Lent::NONE, [0, 0]) }.reply
+}
+
+#[no_mangle]
+pub unsafe extern "C" fn tannoplex_pick(
+    table: *const u32,
+    table_len: usize,
+    state: *const u32,
+    state_len: usize,
+) -> Picked {
+    let (table, state) = (Lent::words(table, table_len), Lent::words(state, state_len));
+    // Neither is written: the state goes where a buffer that is only read goes.
+    let answer = unsafe { call(Function::Pick, table, Lent::NONE, state, [0, 0]) };
+    Picked { reply: answer.reply, agent: answer.more as u32, time: answer.time }
 }
 
 #[no_mangle]
@@ -192,7 +214,7 @@ pub unsafe extern "C" fn tannoplex_step(
     time: u32,
 ) -> u32 {
     let (table, state) = (Lent::words(table, table_len), Lent::words(state, state_len));
-    unsafe { call(Function::Step, table, state, Lent::NONE, [agent, time]) }.0
+    unsafe { call(Function::Step, table, state, Lent::NONE, [agent, time]) }.reply
 }
 
 #[no_mangle]
@@ -206,8 +228,8 @@ pub unsafe extern "C" fn tannoplex_run(
 ) -> Ran {
     let (table, state) = (Lent::words(table, table_len), Lent::words(state, state_len));
     let choices = Lent::words(choices, choices_len);
-    let (reply, count) = unsafe { call(Function::Run, table, state, choices, [0, 0]) };
-    Ran { reply, count: count as u32 }
+    let answer = unsafe { call(Function::Run, table, state, choices, [0, 0]) };
+    Ran { reply: answer.reply, count: answer.more as u32 }
 }
 
 #[no_mangle]
@@ -218,6 +240,6 @@ pub unsafe extern "C" fn tannoplex_trace(
     out_len: usize,
 ) -> Traced {
     let (input, out) = (Lent::bytes(input, input_len), Lent::bytes(out, out_len));
-    let (reply, length) = unsafe { call(Function::Trace, input, out, Lent::NONE, [0, 0]) };
-    Traced { reply, length: length as usize }
+    let answer = unsafe { call(Function::Trace, input, out, Lent::NONE, [0, 0]) };
+    Traced { reply: answer.reply, length: answer.more as usize }
 }

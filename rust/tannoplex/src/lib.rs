@@ -67,6 +67,19 @@ pub struct Wrote {
     pub length: usize,
 }
 
+/// What [`pick`] answers.
+#[derive(Clone, Copy, Debug, PartialEq, Eq)]
+#[must_use]
+pub struct Picked {
+    /// [`Reply::Accepted`], [`Reply::AgentEnded`] where all agents have ended, or why nothing can be
+    /// picked.
+    pub reply: Reply,
+    /// The agent that was picked; 0 with a refusal.
+    pub agent: u32,
+    /// The time that was picked for it; 0 with a refusal.
+    pub time: u32,
+}
+
 /// What [`run`] answers.
 #[derive(Clone, Copy, Debug, PartialEq, Eq)]
 #[must_use]
@@ -146,6 +159,47 @@ pub fn start(table: &[u32], state: &mut [u32]) -> Reply {
     given(unsafe {
         archive::tannoplex_start(table.as_ptr(), table.len(), state.as_mut_ptr(), state.len())
     })
+}
+
+/// Picks a choice that [`step`] accepts: of the agents that have not ended the one whose row has the
+/// least late, of several the lowest, at the later of the clock and the early of that row.
+///
+/// Replies [`Reply::BufferTooShort`], [`Reply::BadTable`], [`Reply::BadState`], then
+/// [`Reply::AgentEnded`] where all agents have ended. There is no other refusal: while any agent has
+/// not ended some choice is accepted. Picks and steps end all agents in no more steps than the table
+/// has rows, and so does any loop that takes an accepted choice while there is one:
+///
+/// ```
+/// use tannoplex::{Reply, STATE_WORDS, TABLE_WORDS};
+///
+/// let text = b"000000000005000000000000000000000000\n\
+///              010020000000000000070000000100000003\n\
+///              000100000000000000000000000000000000\n\
+///              010130010000000000070000000400000008\n\
+///              FF\n";
+/// let mut table = [0; TABLE_WORDS];
+/// assert_eq!(tannoplex::read(text, &mut table).reply, Reply::Accepted);
+///
+/// let mut state = [0; STATE_WORDS];
+/// assert_eq!(tannoplex::start(&table, &mut state), Reply::Accepted);
+/// let mut choices = Vec::new();
+/// loop {
+///     let picked = tannoplex::pick(&table, &state);
+///     if picked.reply == Reply::AgentEnded {
+///         break;
+///     }
+///     let reply = tannoplex::step(&table, &mut state, picked.agent, picked.time);
+///     assert_eq!(reply, Reply::Accepted);
+///     choices.push((picked.agent, picked.time));
+/// }
+/// assert_eq!(choices, [(0, 1), (1, 4)]);
+/// ```
+pub fn pick(table: &[u32], state: &[u32]) -> Picked {
+    // SAFETY: as in `read`; nothing is written, so the two slices may be one.
+    let picked = unsafe {
+        archive::tannoplex_pick(table.as_ptr(), table.len(), state.as_ptr(), state.len())
+    };
+    Picked { reply: given(picked.reply), agent: picked.agent, time: picked.time }
 }
 
 /// One step of `agent` at `time`. Any numbers may be given.
