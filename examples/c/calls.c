@@ -1,7 +1,7 @@
 /*
  * Each call once accepted and once refused, a read by each refusal of a line's form, two arms of a
- * branch in one time and rows that go back, a write by each of its refusals, through the header:
- * that its names, types and results are those of the archive.
+ * branch in one time and rows that go back, a write and a pick by each of their refusals, through the
+ * header: that its names, types and results are those of the archive.
  * Prints one line, or fails at the first difference.
  */
 #include <stdio.h>
@@ -51,6 +51,12 @@ static void expect(int good, const char *what)
 static void expect_wrote(tannoplex_wrote wrote, uint32_t reply, size_t length, const char *what)
 {
     expect(wrote.reply == reply && wrote.length == length, what);
+}
+
+static void expect_picked(tannoplex_picked picked, uint32_t reply, uint32_t agent, uint32_t time,
+                          const char *what)
+{
+    expect(picked.reply == reply && picked.agent == agent && picked.time == time, what);
 }
 
 /* Whether so many bytes are as they were before a call. */
@@ -124,6 +130,46 @@ static void test_write(void)
     expect(memcmp(exact + 3 * 37 - 9, "89ABCDEF\n", 9) == 0, "digits are upper-case");
 }
 
+/* The table that was read, run by picks to its end. */
+static void test_pick(void)
+{
+    const size_t words = TANNOPLEX_TABLE_WORDS, state_words = TANNOPLEX_STATE_WORDS;
+    const uint32_t short_buffer = TANNOPLEX_BUFFER_TOO_SHORT, ended = TANNOPLEX_AGENT_ENDED;
+    expect(tannoplex_start(table, words, state, state_words) == TANNOPLEX_ACCEPTED, "start");
+    memcpy(stepped, state, sizeof state);
+    memcpy(again, table, sizeof table);
+
+    expect_picked(tannoplex_pick(NULL, 0, NULL, 0), short_buffer, 0, 0, "pick, no buffer");
+    expect_picked(tannoplex_pick(table, words - 1, state, state_words), short_buffer, 0, 0,
+                  "pick, too few words of the table");
+    expect_picked(tannoplex_pick(table, words, state, state_words - 1), short_buffer, 0, 0,
+                  "pick, too few words of the state");
+    again[TANNOPLEX_TABLE_AGENTS] = 3;
+    expect_picked(tannoplex_pick(again, words, state, state_words), TANNOPLEX_BAD_TABLE, 0, 0,
+                  "pick, a bad table");
+    again[TANNOPLEX_TABLE_AGENTS] = 2;
+    stepped[TANNOPLEX_STATE_CLOCK] = 0;
+    expect_picked(tannoplex_pick(table, words, stepped, state_words), TANNOPLEX_BAD_STATE, 0, 0,
+                  "pick, clock 0");
+    stepped[TANNOPLEX_STATE_CLOCK] = 1;
+    expect_picked(tannoplex_pick(table, words, state, state_words), TANNOPLEX_ACCEPTED, 0, 1,
+                  "pick, the least late");
+    expect(memcmp(state, stepped, sizeof state) == 0 && memcmp(table, again, sizeof table) == 0,
+           "a pick leaves every word");
+
+    expect(tannoplex_step(table, words, state, state_words, 0, 1) == TANNOPLEX_ACCEPTED,
+           "step, as picked");
+    expect_picked(tannoplex_pick(table, words, state, state_words), TANNOPLEX_ACCEPTED, 1, 4,
+                  "pick, the other agent at its early");
+    state[TANNOPLEX_STATE_CLOCK] = 7;
+    expect_picked(tannoplex_pick(table, words, state, state_words), TANNOPLEX_ACCEPTED, 1, 7,
+                  "pick, the other agent at the clock");
+    expect(tannoplex_step(table, words, state, state_words, 1, 7) == TANNOPLEX_ACCEPTED,
+           "step, as picked");
+    expect_picked(tannoplex_pick(table, words, state, state_words), ended, 0, 0,
+                  "pick, all have ended");
+}
+
 int main(void)
 {
     const size_t words = TANNOPLEX_TABLE_WORDS, state_words = TANNOPLEX_STATE_WORDS;
@@ -147,6 +193,7 @@ int main(void)
            "the places of a row in the table");
     test_windows();
     test_write();
+    test_pick();
 
     expect(tannoplex_check(table, words - 1) == TANNOPLEX_BUFFER_TOO_SHORT, "check, too short");
     expect(tannoplex_check(table, words) == TANNOPLEX_ACCEPTED, "check");
@@ -184,6 +231,6 @@ int main(void)
                memcmp(out, OUTPUT, sizeof OUTPUT - 1) == 0,
            "trace");
 
-    printf("the seven calls answer through the header as they must\n");
+    printf("the eight calls answer through the header as they must\n");
     return 0;
 }

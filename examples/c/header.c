@@ -1,7 +1,7 @@
 /*
  * What a compiler alone can tell of the headers: every macro for a place, at the ends of its part,
- * and every one for a row's first word. It is compiled as each edition of C and C++ that the headers
- * are for, and never run.
+ * every one for a row's first word, and how the answer of three words lies. It is compiled as each
+ * edition of C and C++ that the headers are for, and never run.
  */
 #include "tannoplex.h"
 #include "tannoplex_replies.h"
@@ -14,6 +14,10 @@
 #endif
 #if TANNOPLEX_SET != 0 || TANNOPLEX_RECV != 0x30 || TANNOPLEX_TEXT_TOO_LONG != 20
 #error "ops and replies cannot be told by #if"
+#endif
+
+#ifdef TANNOPLEX_STUCK
+#error "14 is reserved, and has no name"
 #endif
 
 /* No compiler takes an array of -1 elements. */
@@ -33,6 +37,9 @@ HOLDS(words_of_a_row, TANNOPLEX_ROW_CODE == 0 && TANNOPLEX_ROW_K == 1 && TANNOPL
 
 HOLDS(texts, TANNOPLEX_TABLE_TEXT_BYTES ==
                  37 * TANNOPLEX_AGENTS * (1 + TANNOPLEX_ROWS) + sizeof "FF\n" - 1);
+
+HOLDS(picked, sizeof(tannoplex_picked) == 12 && offsetof(tannoplex_picked, reply) == 0 &&
+                  offsetof(tannoplex_picked, agent) == 4 && offsetof(tannoplex_picked, time) == 8);
 
 HOLDS(positions, TANNOPLEX_STATE_POSITION(0) == TANNOPLEX_STATE_CLOCK + 1 &&
                      TANNOPLEX_STATE_POSITION(15) == TANNOPLEX_STATE_REGISTERS - 1);

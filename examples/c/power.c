@@ -10,38 +10,16 @@
  * choice in it, and the reply in words. 2 where there are not two files, one cannot be read or is
  * above 65,536 bytes, or a line of CHOICES is no choice: then nothing was run.
  */
-#include <stdio.h>
-#include <stdlib.h>
 #include <string.h>
 
-#include "tannoplex.h"
-#include "tannoplex_replies.h"
+#include "files.h"
 
-#define TEXT_BYTES TANNOPLEX_TRACE_INPUT_BYTES
 #define CHOICE_DIGITS 12
 #define CHOICE_BYTES (CHOICE_DIGITS + 1)
 
-static uint8_t text[TEXT_BYTES];
 static uint32_t table[TANNOPLEX_TABLE_WORDS];
 static uint32_t state[TANNOPLEX_STATE_WORDS];
 static uint32_t choices[2 * (TEXT_BYTES / CHOICE_BYTES)];
-
-/* The bytes of a file into text; their number. */
-static size_t read_file(const char *name)
-{
-    FILE *file = fopen(name, "rb");
-    if (file == NULL) {
-        perror(name);
-        exit(2);
-    }
-    size_t length = fread(text, 1, sizeof text, file);
-    if (ferror(file) || fgetc(file) != EOF) {
-        fprintf(stderr, "%s: cannot be read, or is above %d bytes\n", name, TEXT_BYTES);
-        exit(2);
-    }
-    fclose(file);
-    return length;
-}
 
 /* The number that so many hexadecimal digits stand for; *good becomes 0 where one is no digit. */
 static uint32_t number(const uint8_t *digits, size_t count, int *good)
@@ -86,14 +64,7 @@ int main(int argc, char **argv)
         return 2;
     }
 
-    size_t length = read_file(argv[1]);
-    tannoplex_told told = tannoplex_read(text, length, table, TANNOPLEX_TABLE_WORDS);
-    if (told.reply != TANNOPLEX_ACCEPTED) {
-        fprintf(stderr, "%s: line %u is refused with %u: %s\n", argv[1], told.line, told.reply,
-                tannoplex_reply_text(told.reply));
-        return 1;
-    }
-
+    read_table(argv[1], table);
     size_t words = read_choices(argv[2], read_file(argv[2]));
     tannoplex_ran ran = tannoplex_run(table, TANNOPLEX_TABLE_WORDS, state, TANNOPLEX_STATE_WORDS,
                                       choices, words);

@@ -25,6 +25,7 @@ static uint32_t read_text(void) { return tannoplex_read(text, sizeof text - 1, t
 static uint32_t write_text(void) { return tannoplex_write(table, words, out, sizeof out).reply; }
 static uint32_t check(void) { return tannoplex_check(table, words); }
 static uint32_t start(void) { return tannoplex_start(table, words, state, state_words); }
+static uint32_t pick(void) { return tannoplex_pick(table, words, state, state_words).reply; }
 static uint32_t step(void) { return tannoplex_step(table, words, state, state_words, 0, 3); }
 static uint32_t run(void) { return tannoplex_run(table, words, state, state_words, choices, 4).reply; }
 static uint32_t trace(void) { return tannoplex_trace(input, sizeof input - 1, out, sizeof out).reply; }
@@ -57,8 +58,8 @@ int main(void)
     } calls[] = {
         {"read", read_text, TANNOPLEX_READ_STACK_BYTES}, {"write", write_text, TANNOPLEX_STACK_BYTES},
         {"check", check, TANNOPLEX_STACK_BYTES},         {"start", start, TANNOPLEX_STACK_BYTES},
-        {"step", step, TANNOPLEX_STACK_BYTES},           {"run", run, TANNOPLEX_STACK_BYTES},
-        {"trace", trace, TANNOPLEX_TRACE_STACK_BYTES},
+        {"pick", pick, TANNOPLEX_STACK_BYTES},           {"step", step, TANNOPLEX_STACK_BYTES},
+        {"run", run, TANNOPLEX_STACK_BYTES},             {"trace", trace, TANNOPLEX_TRACE_STACK_BYTES},
     };
     uint32_t reply;
     size_t none = stack_of(no_call, &reply);
