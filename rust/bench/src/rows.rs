@@ -132,25 +132,26 @@ impl<F: FnMut(&[u32], &mut [u32], u32, u32)> Work for Steps<F> {
     }
 }
 
+/// Some states of a whole schedule, each before the choice that it comes with: every so many steps,
+/// few enough to stay in the cache, of every agent.
+fn along_a_run(table: &Table, every: usize) -> Vec<(Vec<u32>, [u32; 2])> {
+    let words = table.to_words();
+    let choices = inputs::choices(table);
+    let before = |at: usize| {
+        let mut state = vec![0; STATE_WORDS];
+        assert_eq!(reference::run(&words, &mut state, choices[..at].as_flattened()).0, 0);
+        (state, choices[at])
+    };
+    (0..choices.len()).step_by(every).map(before).collect()
+}
+
 fn steps<F>(step: F) -> Box<dyn Work>
 where
     F: FnMut(&[u32], &mut [u32], u32, u32) + 'static,
 {
     let table = full_table();
-    let choices = inputs::choices(&table);
-    let words = table.to_words();
-    // Every 17th step of the schedule: few enough states to stay in the cache, of every agent.
-    let chosen: Vec<usize> = (0..choices.len()).step_by(17).collect();
-    let fresh: Vec<Vec<u32>> = chosen
-        .iter()
-        .map(|&at| {
-            let mut state = vec![0; STATE_WORDS];
-            assert_eq!(reference::run(&words, &mut state, choices[..at].as_flattened()).0, 0);
-            state
-        })
-        .collect();
-    let choices = chosen.iter().map(|&at| choices[at]).collect();
-    Box::new(Steps { table: words, states: fresh.clone(), fresh, choices, step })
+    let (fresh, choices): (Vec<_>, Vec<_>) = along_a_run(&table, 17).into_iter().unzip();
+    Box::new(Steps { table: table.to_words(), states: fresh.clone(), fresh, choices, step })
 }
 
 fn step() -> Row {
@@ -171,6 +172,44 @@ fn step() -> Row {
             black_box(sum(table).wrapping_add(sum(state)));
         }),
     }
+}
+
+/// One pick from each of these states.
+fn picks<F>(table: &Table, states: &[Vec<u32>], mut pick: F) -> Box<dyn Work>
+where
+    F: FnMut(&[u32], &[u32]) + 'static,
+{
+    let (table, states) = (table.to_words(), states.to_vec());
+    Box::new(move || states.iter().for_each(|state| pick(black_box(&table), black_box(state))))
+}
+
+/// A row for picks along a run of this table.
+fn pick(what: &str, table: &Table, every: usize) -> Row {
+    let states: Vec<Vec<u32>> =
+        along_a_run(table, every).into_iter().map(|(state, _)| state).collect();
+    Row {
+        what: format!("{what}, {} states along a run", states.len()),
+        between: "nothing; no buffer is written",
+        calls: states.len(),
+        proved: picks(table, &states, |table, state| {
+            assert!(black_box(tannoplex::pick(table, state)).reply.is_accepted());
+        }),
+        quick: picks(table, &states, |table, state| {
+            assert_eq!(black_box(quick::pick(table, state)).0, 0);
+        }),
+        narrow: None,
+        sum: picks(table, &states, |table, state| {
+            black_box(sum(table).wrapping_add(sum(state)));
+        }),
+    }
+}
+
+fn pick_16_agents() -> Row {
+    pick("16 agents of 32 rows", &full_table(), 17)
+}
+
+fn pick_3_agents() -> Row {
+    pick("3 agents of 32 rows", &inputs::table(3, ROWS, inputs::MANY_RECVS), 3)
 }
 
 /// Whole runs, each accepted to its end.
@@ -254,11 +293,13 @@ fn trace() -> Row {
 pub type Named = (&'static str, fn() -> Row);
 
 /// All rows of the table.
-pub const ALL: [Named; 8] = [
+pub const ALL: [Named; 10] = [
     ("check", check),
     ("read", read),
     ("write", write),
     ("step", step),
+    ("pick, 16 agents", pick_16_agents),
+    ("pick, 3 agents", pick_3_agents),
     ("run, many RECVs", run_many_recvs),
     ("run, no RECVs", run_no_recvs),
     ("run, 3 agents", run_3_agents),
