@@ -13,19 +13,7 @@ use Rattle.tables.proofs.Tests.{and-both}
 use Rattle.tables.proofs.Passed.{and-1, and-2, below, all-below, not-all-below, passed}
 use Rattle.choices.specs.State.{clock, pos}
 use Rattle.choices.specs.Fit.{unfinished, current, inTime}
-use Rattle.choices.specs.Step.{choiceReply, stuck, canGo, InTime, Allowed}
-
--- no rule of the list whose test holds has the number n
-abbrev pub lacks : ℕ → List Rule → Bool
-lacks n [] = not (eqb 0 n)
-lacks n ((b ⇒ r) ∷ rs) = not (eqb r n && b) && lacks n rs
-
-pub lacking : (n : ℕ) (rs : List Rule) → lacks n rs ≡ true → first rs ≢ n
-unfolding first
-lacking n [] h e = eqb-false 0 n (not-true (eqb 0 n) h) e
-lacking n ((true ⇒ r) ∷ rs) h e =
-    false≢true (sym (not-true (eqb r n && true) (and-1 (not (eqb r n && true)) (lacks n rs) h)) ∙ and-both (eqb r n) true (eq-eqb r n e) refl)
-lacking n ((false ⇒ r) ∷ rs) h e = lacking n rs (and-2 (not (eqb r n && false)) (lacks n rs) h) e
+use Rattle.choices.specs.Step.{choiceReply, InTime, Allowed}
 
 module _ (tb st : List ℕ) where
   pub in-time : (t : ℕ) → inTime tb st t ≡ true → InTime tb st t
@@ -53,22 +41,8 @@ module _ (tb st : List ℕ) where
           unended = leb-false _ _ (clear 1);
           clock = ltb-false _ _ (clear 2);
           early = ltb-false _ _ (clear 3);
-          late = in-time t (not-false _ (clear 5));
+          late = in-time t (not-false _ (clear 4));
         }
-
-    -- an agent that may be chosen at some time can go
-    pub can-go : Allowed tb st a t → canGo tb st a ≡ true
-    unfolding canGo unfinished
-    can-go c =
-        rw (lt-ltb (pos st a) (rows tb a) (c .unended))
-        (time-in (max (clock st) (current tb st a .early)) (λ b hb live.
-        let l = c .late b hb live in
-        let n = c .clock in
-        let e = c .early in omega arith))
-
-    pub not-stuck : Allowed tb st a t → stuck tb st ≡ false
-    unfolding stuck
-    not-stuck c = not-all-below (agents tb) (λ b. not (canGo tb st b)) a (c .agent) (rw (can-go c))
 
     pub allowed-reply : Allowed tb st a t → choiceReply tb st a t ≡ 0
     unfolding choiceReply first
@@ -78,7 +52,6 @@ module _ (tb st : List ℕ) where
           lt-leb (rows tb a) (pos st a) (c .unended),
           le-ltb t (clock st) (c .clock),
           le-ltb t (current tb st a .early) (c .early),
-          not-stuck c,
           time-in t (c .late),
         )
 
@@ -104,17 +77,12 @@ module _ (tb st : List ℕ) where
             rw (lt-leb (agents tb) a low, lt-leb (rows tb a) (pos st a) live, le-ltb t (clock st) on, lt-ltb t (current tb st a .early) h)
 
         module _ (opened : current tb st a .early ≤ t) where
-          pub reply-14 : stuck tb st ≡ true → choiceReply tb st a t ≡ 14
+          pub reply-15 : inTime tb st t ≡ false → choiceReply tb st a t ≡ 15
           unfolding choiceReply first
-          reply-14 h =
+          reply-15 h =
               rw (lt-leb (agents tb) a low, lt-leb (rows tb a) (pos st a) live, le-ltb t (clock st) on, le-ltb t (current tb st a .early) opened, h)
 
-          pub reply-15 : stuck tb st ≡ false → inTime tb st t ≡ false → choiceReply tb st a t ≡ 15
+          pub reply-0 : inTime tb st t ≡ true → choiceReply tb st a t ≡ 0
           unfolding choiceReply first
-          reply-15 f h =
-              rw (lt-leb (agents tb) a low, lt-leb (rows tb a) (pos st a) live, le-ltb t (clock st) on, le-ltb t (current tb st a .early) opened, f, h)
-
-          pub reply-0 : stuck tb st ≡ false → inTime tb st t ≡ true → choiceReply tb st a t ≡ 0
-          unfolding choiceReply first
-          reply-0 f h =
-              rw (lt-leb (agents tb) a low, lt-leb (rows tb a) (pos st a) live, le-ltb t (clock st) on, le-ltb t (current tb st a .early) opened, f, h)
+          reply-0 h =
+              rw (lt-leb (agents tb) a low, lt-leb (rows tb a) (pos st a) live, le-ltb t (clock st) on, le-ltb t (current tb st a .early) opened, h)

@@ -1,15 +1,15 @@
 -- A choice worked out with the registers beside the state's words is the choice of the whole state. Assumes nothing.
 use mathlib.Core.Path.{_≡_, refl, sym, ap, ap₂, _∙_, fun-ext}
-use mathlib.Core.Bool.{Bool, true, false, not, _||_, _&&_, cond}
+use mathlib.Core.Bool.{Bool, true, false, not, _||_, cond}
 use mathlib.Core.List.{List, []}
-use Prim.Native.Nat.{ℕ, zero, suc, _+_, _*_, _-_, _/_, _%_, _≤_, _<_, max}
+use Prim.Native.Nat.{ℕ, _+_, _*_, _-_, _/_, _%_, _≤_, _<_}
 use native.Mathlib.Decide.{decLt}
 use native.Mathlib.Omega.{arith}
 use lib.Dec.{eqb, leb, ltb}
 use lib.ListN.{length, take, drop, getD, set, length-take, length-drop, length-set}
 use lib.Seq.{length-sets, ext-getD}
 use borrow.Author.Tests.{le-leb}
-use Rattle.tables.specs.Basics.{first, allBelow}
+use Rattle.tables.specs.Basics.{first}
 use Rattle.tables.specs.Layout.{agents, rows, row}
 use Rattle.tables.specs.Rows.{wellFormed}
 use Rattle.tables.specs.Table.{goodTable}
@@ -20,19 +20,15 @@ use Rattle.choices.specs.State.{Pool, clock, pos, mark, value, pool, age
 use Rattle.choices.specs.Messages.{best}
 use Rattle.choices.specs.Effect.{after}
 use Rattle.choices.specs.Fit.{unfinished, current, inTime}
-use Rattle.choices.specs.Step.{choiceReply, stuck, canGo, accepted, withAgent, withSent}
+use Rattle.choices.specs.Step.{choiceReply, accepted, withAgent, withSent}
 use Rattle.choices.specs.Registers.{around, listed, register, withRegs, acted, actInto}
 use Rattle.choices.proofs.Lists.{getD-part}
 use Rattle.choices.proofs.Around.{listed-length, listed-at, around-length, around-low, around-mid, around-high, around-own, around-around, around-set, around-sets}
 use Rattle.choices.proofs.Choice.{allowed}
+use Rattle.choices.proofs.Lates.{below-same}
 use Rattle.choices.proofs.After.{next, after-four, accepted-self}
 
 -- ---- the reply goes by the clock and the positions alone
-
-below-same : (n : ℕ) (f g : ℕ → Bool) → ((i : ℕ) → i < n → f i ≡ g i) → allBelow n f ≡ allBelow n g
-unfolding allBelow
-below-same zero f g h = refl
-below-same (suc n) f g h = ap₂ _&&_ (below-same n f g (λ i l. h i (omega arith))) (h n (omega arith))
 
 module _ (tb st st′ : List ℕ) (few : agents tb ≤ 16) (same : (j : ℕ) → j < 17 → getD st j 0 ≡ getD st′ j 0) where
   in-time-same : (t : ℕ) → inTime tb st t ≡ inTime tb st′ t
@@ -40,19 +36,12 @@ module _ (tb st st′ : List ℕ) (few : agents tb ≤ 16) (same : (j : ℕ) →
   in-time-same t =
       below-same (agents tb) _ _ (λ b h. ap (λ (p : ℕ). not (ltb p (rows tb b)) || leb t (row tb b p .late)) (same (posPlace b) (omega arith)))
 
-  stuck-same : stuck tb st ≡ stuck tb st′
-  unfolding stuck canGo unfinished
-  stuck-same =
-      below-same (agents tb) _ _ (λ b h.
-      ap₂ (λ (p c : ℕ). not (ltb p (rows tb b) && inTime tb st (max c (row tb b p .early)))) (same (posPlace b) (omega arith)) (same 0 (omega arith))
-      ∙ ap (λ (x : Bool). not (ltb (pos st′ b) (rows tb b) && x)) (in-time-same (max (clock st′) (current tb st′ b .early))))
-
   pub reply-same : (a t : ℕ) → choiceReply tb st a t ≡ choiceReply tb st′ a t
   unfolding choiceReply first
   reply-same a t = go (decLt a 16)
     where
       go : Dec (a < 16) → choiceReply tb st a t ≡ choiceReply tb st′ a t
-      go (yes h) = rw (same (posPlace a) (omega arith), same 0 (omega arith), stuck-same, in-time-same t)
+      go (yes h) = rw (same (posPlace a) (omega arith), same 0 (omega arith), in-time-same t)
       go (no n) = rw (le-leb (agents tb) a (omega arith))
 
 -- ---- an accepted choice's agent and row

@@ -5,6 +5,7 @@ pub mod Choice
 pub mod Effects
 pub mod Onward
 pub mod Looking
-pub mod Deadline
+pub mod Lates
+pub mod Pick
 pub mod Around
 pub mod Choosing

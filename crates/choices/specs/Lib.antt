@@ -4,4 +4,6 @@ pub mod Messages
 pub mod Effect
 pub mod Fit
 pub mod Step
+pub mod Pick
 pub mod Registers
+pub mod Lates

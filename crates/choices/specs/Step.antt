@@ -1,28 +1,20 @@
--- A choice of an agent and a time: its reply 10 to 15, and the state's words after an accepted one. Assumes nothing.
-use mathlib.Core.Bool.{Bool, not, _&&_, cond}
+-- A choice of an agent and a time: its reply 10 to 13 or 15, and the state's words after an accepted one. Assumes nothing.
+use mathlib.Core.Bool.{not, cond}
 use mathlib.Core.List.{List, [], _∷_}
-use Prim.Native.Nat.{ℕ, _+_, _≤_, _<_, max}
+use Prim.Native.Nat.{ℕ, _≤_, _<_}
 use lib.Dec.{ltb, leb, eqb}
 use lib.ListN.{getD, set}
 use lib.Seq.{sets}
-use Rattle.tables.specs.Basics.{first, _⇒_, allBelow}
+use Rattle.tables.specs.Basics.{first, _⇒_}
 use Rattle.tables.specs.Layout.{agents, rows, row}
 use Rattle.tables.specs.declared.Row.{Row}
 use Rattle.choices.specs.declared.Agent.{Agent}
 use Rattle.choices.specs.State.{clock, pos, pool, agentAt, posPlace, regPlace, markPlace, valuePlace}
 use Rattle.choices.specs.Messages.{best}
 use Rattle.choices.specs.Effect.{after}
-use Rattle.choices.specs.Fit.{unfinished, current, inTime}
+use Rattle.choices.specs.Fit.{current, inTime}
 
--- some time would be accepted for agent b: the earliest that it may be run at is in time
-unfoldable pub canGo : List ℕ → List ℕ → ℕ → Bool
-canGo tb st b = unfinished tb st b && inTime tb st (max (clock st) (current tb st b .early))
-
--- "stuck: no agent and time at all would be accepted"; where this is asked, 11 has shown that some agent is unfinished
-unfoldable pub stuck : List ℕ → List ℕ → Bool
-stuck tb st = allBelow (agents tb) (λ b. not (canGo tb st b))
-
--- the reply to a choice, of a table and a state that are good
+-- the reply to a choice, of a table and a state that are good; 14 is reserved, and no choice gets it
 unfoldable pub choiceReply : (tb st : List ℕ) (a t : ℕ) → ℕ
 choiceReply tb st a t =
     first
@@ -30,7 +22,6 @@ choiceReply tb st a t =
     ∷ (leb (rows tb a) (pos st a) ⇒ 11)
     ∷ (ltb t (clock st) ⇒ 12)
     ∷ (ltb t (current tb st a .early) ⇒ 13)
-    ∷ (stuck tb st ⇒ 14)
     ∷ (not (inTime tb st t) ⇒ 15)
     ∷ [])
 

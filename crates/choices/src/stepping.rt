@@ -1,7 +1,5 @@
 // A choice of an agent and a time, of a good table.
 use crate::Agent;
-use crate::deadlines::deadline;
-use crate::deadlines::is_stuck;
 use crate::layout::CLOCK_AT;
 use crate::layout::clock;
 use crate::layout::mark_place;
@@ -17,7 +15,6 @@ use tables::layout::row_count;
 use tables::replies::ACCEPTED;
 use tables::replies::AGENT_ENDED;
 use tables::replies::NO_SUCH_AGENT;
-use tables::replies::STUCK;
 use tables::replies::TIME_ABOVE_LATE;
 use tables::replies::TIME_BELOW_CLOCK;
 use tables::replies::TIME_BELOW_EARLY;
@@ -34,12 +31,13 @@ ghost use Rattle.tables.specs.Table.{goodTable};
 ghost use Rattle.choices.specs.State.{pool, posPlace, stateWords};
 ghost use Rattle.choices.specs.Messages.{best};
 ghost use Rattle.choices.specs.Effect.{after};
+ghost use Rattle.choices.specs.Fit.{inTime};
 ghost use Rattle.choices.specs.Step.{choiceReply, withSent};
 ghost use Rattle.choices.specs.Registers.{acted, actInto};
 
-// The reply to the choice of agent a at time t: 10 to 15, or 0.
-pub fn choice_reply(table: &[u32], state: &[u32], a: u32, t: u32) -> u32
-    requires { ⌜ (length (now table) ≡ tableWords) × (length (now state) ≡ stateWords) × (goodTable (now table) ≡ true) ⌝ }
+// The reply to the choice of agent a at time t: 10 to 13, 15 or 0. Whether the time is in time for all agents is told.
+pub fn choice_reply(table: &[u32], state: &[u32], a: u32, t: u32, timely: bool) -> u32
+    requires { ⌜ (length (now table) ≡ tableWords) × (length (now state) ≡ stateWords) × (goodTable (now table) ≡ true) × (timely ≡ inTime (now table) (now state) t) ⌝ }
     ensures { λ r. ⌜ r ≡ choiceReply (now (table .entry)) (now (state .entry)) a t ⌝ }
 {
     if agent_count(table) <= a {
@@ -57,11 +55,7 @@ pub fn choice_reply(table: &[u32], state: &[u32], a: u32, t: u32) -> u32
     if t < r.early {
         return TIME_BELOW_EARLY;
     }
-    let d = deadline(table, state);
-    if is_stuck(table, state, b, d) {
-        return STUCK;
-    }
-    if d < t {
+    if !timely {
         return TIME_ABOVE_LATE;
     }
     ACCEPTED

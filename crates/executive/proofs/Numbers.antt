@@ -8,7 +8,7 @@ use native.Mathlib.Decide.{decLt}
 use native.Mathlib.Omega.{arith}
 use lib.Dec.{eqb}
 use borrow.Author.Tests.{eq-eqb, ne-eqb}
-use Rattle.executive.specs.Numbers.{bit, bits, Lowest, firstBelow}
+use Rattle.executive.specs.Numbers.{bit, bits, Lowest}
 use lib.Count.{onesIn, trailingZeros, under}
 
 bit-low : (y : ℕ) → bit y 0 ≡ y % 2
@@ -78,26 +78,7 @@ difference x y = (x + 2 ^ 32 - y % 2 ^ 32) % 2 ^ 32
 pub sub-is : (x y : ℕ) → (difference x y < 2 ^ 32) × ((difference x y + y) % 2 ^ 32 ≡ x % 2 ^ 32)
 sub-is x y = (omega arith, omega arith)
 
--- ---- the first number of which a test holds
-
--- the first test told
-found : (n : ℕ) (f : ℕ → Bool) (b : Bool) → f 0 ≡ b → firstBelow (suc n) f ≡ elim b as (λ _. ℕ) [ true ↦ 0 | false ↦ suc (firstBelow n (λ i. f (suc i))) ]
-unfolding firstBelow
-found n f b h = ap (λ (x : Bool). elim x as (λ _. ℕ) [ true ↦ 0 | false ↦ suc (firstBelow n (λ i. f (suc i))) ]) h
-
-pub first-below-is : (n : ℕ) (f : ℕ → Bool) (v : ℕ) → v < n → f v ≡ true → ((i : ℕ) → i < v → f i ≡ false) → firstBelow n f ≡ v
-unfolding firstBelow
-first-below-is zero f v h t no-lower = absurd (not-suc-le-zero h)
-first-below-is (suc n) f zero h t no-lower = found n f true t
-first-below-is (suc n) f (suc v) h t no-lower =
-    found n f false (no-lower 0 (omega arith))
-    ∙ ap suc (first-below-is n (λ i. f (suc i)) v (le-of-suc-le-suc h) t (λ i k. no-lower (suc i) (suc-le-suc k)))
-
-pub first-below-none : (n : ℕ) (f : ℕ → Bool) → ((i : ℕ) → i < n → f i ≡ false) → firstBelow n f ≡ n
-unfolding firstBelow
-first-below-none zero f none = refl
-first-below-none (suc n) f none =
-    found n f false (none 0 (omega arith)) ∙ ap suc (first-below-none n (λ i. f (suc i)) (λ i k. none (suc i) (suc-le-suc k)))
+-- ---- as the first number of which a test holds
 
 -- LOW: the first place of a one bit
 pub low-first : (y : ℕ) → trailingZeros 32 y ≡ firstBelow 32 (λ i. eqb (bit y i) 1)

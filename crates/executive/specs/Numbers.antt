@@ -1,5 +1,4 @@
--- Bits of a number, and the first number of which a test holds: what ONES, LOW and SUB are told by. Assumes nothing.
-use mathlib.Core.Bool.{Bool, true, false}
+-- Bits of a number: what ONES and LOW are told by. Assumes nothing.
 use mathlib.Core.Path.{_≡_}
 use Prim.Native.Nat.{ℕ, zero, suc, _+_, _/_, _%_, _^_, _≤_, _<_}
 
@@ -16,12 +15,3 @@ pub record Lowest (n y t : ℕ) : Type 0 where
   pub most : t ≤ n
   pub zeros : (i : ℕ) → i < t → bit y i ≡ 0
   pub one : t < n → bit y t ≡ 1
-
--- the first number below n of which the test holds; n where there is none
-unfoldable pub firstBelow : ℕ → (ℕ → Bool) → ℕ
-firstBelow zero f = 0
-firstBelow (suc n) f =
-    elim (f 0) [
-      | true ↦ 0
-      | false ↦ suc (firstBelow n (λ i. f (suc i)))
-    ]

@@ -1,5 +1,6 @@
 // Whether a state fits a good table: what reply 9 denies.
-use choices::deadlines::deadline;
+use choices::deadlines::is_in_time;
+use choices::deadlines::load_lates;
 use choices::layout::MARKS_AT;
 use choices::layout::REGISTERS_AT;
 use choices::layout::STATE_WORDS;
@@ -119,7 +120,8 @@ pub fn state_fits(table: &[u32], state: &[u32]) -> bool
     if LAST_TIME < t {
         return false;
     }
-    if deadline(table, state) < t {
+    let lates = load_lates(table, state);
+    if !is_in_time(&lates, t) {
         return false;
     }
     if !agents_are_good(table, state) {

@@ -3,6 +3,9 @@ use crate::Ran;
 use crate::registers::load_registers;
 use crate::registers::store_registers;
 use crate::starting::put_start;
+use choices::deadlines::is_in_time;
+use choices::deadlines::late_at;
+use choices::deadlines::load_lates;
 use choices::stepping::act;
 use choices::stepping::choice_reply;
 use tables::layout::MOST_AGENTS;
@@ -30,12 +33,13 @@ fn work_out(
     ensures { λ r. ⌜ ended (r .reply) (r .count) (now (state .exit)) ≡ runFrom (now (table .entry)) (withRegs (now (state .entry)) regs) 0 (now (choices .entry)) ⌝ }
 {
     let mut all = regs;
+    let mut lates = load_lates(table, state);
     let mut count: u32 = 0;
     let mut i = 0;
     while i < choices.len() {
         let a = choices[i];
         let t = choices[i + 1];
-        let reply = choice_reply(table, state, a, t);
+        let reply = choice_reply(table, state, a, t, is_in_time(&lates, t));
         if reply != ACCEPTED {
             store_registers(state, all);
             return Ran { reply, count };
@@ -45,6 +49,7 @@ fn work_out(
         let agent = act(table, state, b, t, own);
         let new = agent.regs;
         all[b] = new;
+        lates[b] = late_at(table, b, agent.pos);
         count += 1;
         i += 2;
     }

@@ -1,5 +1,6 @@
 pub mod Tests
 pub mod Passed
+pub mod FirstBelow
 pub mod RowReplies
 pub mod Zeros
 pub mod Stored

@@ -1,7 +1,7 @@
 -- Words that the other definitions are written in: the first refusal of a list, tests over a range. Assumes nothing.
 use mathlib.Core.Path.{_≡_}
 use mathlib.Core.Logic.{_⊎_}
-use mathlib.Core.Bool.{Bool, true, _&&_, cond}
+use mathlib.Core.Bool.{Bool, true, false, _&&_, cond}
 use mathlib.Core.List.{List, [], _∷_}
 use Prim.Native.Nat.{ℕ, zero, suc, _-_}
 use lib.Dec.{eqb}
@@ -31,6 +31,15 @@ OneOf j (i ∷ is) = (j ≡ i) ⊎ OneOf j is
 unfoldable pub allBelow : ℕ → (ℕ → Bool) → Bool
 allBelow zero f = true
 allBelow (suc n) f = allBelow n f && f n
+
+-- the first number below n of which the test holds; n where there is none
+unfoldable pub firstBelow : ℕ → (ℕ → Bool) → ℕ
+firstBelow zero f = 0
+firstBelow (suc n) f =
+    elim (f 0) [
+      | true ↦ 0
+      | false ↦ suc (firstBelow n (λ i. f (suc i)))
+    ]
 
 -- every word of the list is 0
 unfoldable pub allZero : List ℕ → Bool

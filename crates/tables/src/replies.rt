@@ -28,8 +28,7 @@ pub const TIME_BELOW_CLOCK: u32 = 12;
 
 pub const TIME_BELOW_EARLY: u32 = 13;
 
-pub const STUCK: u32 = 14;
-
+// 14 is reserved: no call gives it.
 pub const TIME_ABOVE_LATE: u32 = 15;
 
 pub const ODD_CHOICES: u32 = 16;

@@ -6,6 +6,9 @@ use crate::writing::LAST_BYTES;
 use crate::writing::STEP_BYTES;
 use crate::writing::put_last_line;
 use crate::writing::put_step_line;
+use choices::deadlines::is_in_time;
+use choices::deadlines::late_at;
+use choices::deadlines::load_lates;
 use choices::layout::STATE_WORDS;
 use choices::stepping::act;
 use choices::stepping::choice_reply;
@@ -54,13 +57,14 @@ pub fn trace_steps(choices: &[u8], table: &[u32], out: &mut [u8]) -> TraceReply
     let mut state = blank_state();
     put_start(table, &mut state);
     let mut regs = load_registers(&state);
+    let mut lates = load_lates(table, &state);
     let mut n: u32 = 0;
     let mut at = 0;
     let mut end = 0;
     while at < choices.len() {
         let a = field(choices, at + AGENT_AT, 2);
         let t = field(choices, at + TIME_AT, 8);
-        let reply = choice_reply(table, &state, a, t);
+        let reply = choice_reply(table, &state, a, t, is_in_time(&lates, t));
         if reply != ACCEPTED {
             return finish(out, end, reply, n);
         }
@@ -69,6 +73,7 @@ pub fn trace_steps(choices: &[u8], table: &[u32], out: &mut [u8]) -> TraceReply
         let agent = act(table, &mut state, b, t, own);
         let new = agent.regs;
         regs[b] = new;
+        lates[b] = late_at(table, b, agent.pos);
         put_step_line(out, end, a, t, agent);
         n += 1;
         at += CHOICE_BYTES;

@@ -1,9 +1,9 @@
 -- `choice_reply` meets its contract: the tests of `choiceReply` in their order. Assumes nothing.
 use mathlib.Core.Path.{sym, _∙_}
 use native.Mathlib.Omega.{arith}
-use borrow.Author.Tests.{le-leb, lt-leb}
+use Rattle.tables.proofs.Tests.{refused, granted}
 use Rattle.tables.proofs.Good.{few, few-rows}
-use Rattle.choices.proofs.Choice.{reply-10, reply-11, reply-12, reply-13, reply-14, reply-15, reply-0}
+use Rattle.choices.proofs.Choice.{reply-10, reply-11, reply-12, reply-13, reply-15, reply-0}
 use borrow.Author.Needs.{needs}
 use Rattle.choices.proofs.stepping.choice_reply.Statement.{statement}
 use Rattle.choices.proofs.stepping.choice_reply.Tie as tie
@@ -46,49 +46,27 @@ returns-4 c =
     let p = c .before .before .before .before .before .before .before .position .ensures in
     sym (reply-13 _ _ _ _ (omega arith) (omega arith) (omega arith) (rw (c .before .before .row-at .ensures, p) at (c .if4 .taken)))
 
-deadline-requires : tie.Need-deadline-requires
-deadline-requires c κs = search needs
-
-is-stuck-requires : tie.Need-is-stuck-requires
-is-stuck-requires c κs =
-    let k = c .before .before .before .before .before .before .before .before .before in
-    let g = k .before .before .before .before .pre in
-    ((g .0, g .1, g .2, rw (k .before .agent-count .ensures) at (k .if1 .left)), c .deadline .ensures)
-
 returns-5 : tie.Need-returns-5
 returns-5 c =
-    let e = c .before .before .before in
-    let k = e .before .before .before in
-    let m = k .before .before in
-    let n = m .before .before .before in
-    let p = m .before .before .position .ensures in
-    sym (reply-14 _ _ _ _ (rw (n .before .agent-count .ensures) at (n .if1 .left)) (rw (m .before .row-count .ensures, p) at (m .if2 .left))
-    (rw (k .before .clock .ensures) at (k .if3 .left)) (rw (e .before .before .row-at .ensures, p) at (e .if4 .left))
-    (sym (c .before .is-stuck .ensures) ∙ c .if5 .taken))
-
-returns-6 : tie.Need-returns-6
-returns-6 c =
-    let e = c .before .before .before .before in
+    let e = c .before in
     let k = e .before .before .before in
     let m = k .before .before in
     let n = m .before .before .before in
     let p = m .before .before .position .ensures in
     sym (reply-15 _ _ _ _ (rw (n .before .agent-count .ensures) at (n .if1 .left)) (rw (m .before .row-count .ensures, p) at (m .if2 .left))
     (rw (k .before .clock .ensures) at (k .if3 .left)) (rw (e .before .before .row-at .ensures, p) at (e .if4 .left))
-    (sym (c .before .before .is-stuck .ensures) ∙ c .before .if5 .left)
-    (c .before .before .before .deadline .ensures _ (n .before .before .before .before .fits .t .fits) ∙ lt-leb _ _ (c .if6 .taken)))
+    (refused _ _ (n .before .before .before .before .pre .3) (c .if5 .taken)))
 
-returns-7 : tie.Need-returns-7
-returns-7 c =
-    let e = c .before .before .before .before in
+returns-6 : tie.Need-returns-6
+returns-6 c =
+    let e = c .before in
     let k = e .before .before .before in
     let m = k .before .before in
     let n = m .before .before .before in
     let p = m .before .before .position .ensures in
     sym (reply-0 _ _ _ _ (rw (n .before .agent-count .ensures) at (n .if1 .left)) (rw (m .before .row-count .ensures, p) at (m .if2 .left))
     (rw (k .before .clock .ensures) at (k .if3 .left)) (rw (e .before .before .row-at .ensures, p) at (e .if4 .left))
-    (sym (c .before .before .is-stuck .ensures) ∙ c .before .if5 .left)
-    (c .before .before .before .deadline .ensures _ (n .before .before .before .before .fits .t .fits) ∙ le-leb _ _ (c .if6 .left)))
+    (granted _ _ (n .before .before .before .before .pre .3) (c .if5 .left)))
 
 pub choice-reply-spec : {M : Type 1} → statement M
 choice-reply-spec =
@@ -104,8 +82,5 @@ choice-reply-spec =
     cast-row-at
     row-at-requires
     returns-4
-    deadline-requires
-    is-stuck-requires
     returns-5
-    returns-6
-    returns-7)
+    returns-6)

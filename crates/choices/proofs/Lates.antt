@@ -1,0 +1,117 @@
+-- The lates of the agents' current rows, in a list of their own: a time is in time where it is above none of them, and a step changes one. Assumes nothing.
+use mathlib.Core.Path.{_≡_, refl, sym, ap, ap₂, _∙_}
+use mathlib.Core.Logic.{_≢_}
+use mathlib.Core.Bool.{Bool, true, false, not, _&&_, _||_}
+use mathlib.Core.List.{List}
+use Prim.Native.Nat.{ℕ, zero, suc, _+_, _≤_, _<_, _^_}
+use native.Mathlib.Decide.{decLe, decLt, ℕ-discrete}
+use native.Mathlib.Numerals.{add-one}
+use native.Mathlib.Omega.{arith}
+use lib.Dec.{leb}
+use lib.ListN.{length, getD, set, length-set}
+use lib.Seq.{getD-set-same, getD-set-other}
+use borrow.Author.Tests.{le-leb, lt-leb, le-ltb, lt-ltb}
+use Rattle.tables.proofs.Tests.{and-right, and-yes}
+use Rattle.tables.specs.Basics.{allBelow}
+use Rattle.tables.specs.Layout.{agents, rows, row}
+use Rattle.tables.specs.Table.{goodTable}
+use Rattle.tables.proofs.Good.{few, few-rows, table-facts, no-count}
+use Rattle.choices.specs.State.{pos}
+use Rattle.choices.specs.Fit.{unfinished, current, inTime}
+use Rattle.choices.specs.Lates.{noLate, lateAt, Lates}
+
+-- ---- tests over a range
+
+-- one number more
+pub below-suc : (n : ℕ) (f : ℕ → Bool) → allBelow (n + 1) f ≡ (allBelow n f && f n)
+unfolding allBelow
+below-suc n f = rw (add-one n)
+
+-- a test that holds from n on
+pub below-more : (n m : ℕ) (f : ℕ → Bool) → n ≤ m → ((b : ℕ) → n ≤ b → b < m → f b ≡ true) → allBelow m f ≡ allBelow n f
+unfolding allBelow
+below-more n zero f h k = let e : n ≡ 0 = omega arith in rw e
+below-more n (suc m) f h k = go (ℕ-discrete n (suc m)) (λ l. below-more n m f l (λ b u v. k b u (omega arith)))
+  where
+    go : Dec (n ≡ suc m) → (n ≤ m → allBelow m f ≡ allBelow n f) → allBelow (suc m) f ≡ allBelow n f
+    go (yes e) rest = rw e
+    go (no d) rest = and-yes (allBelow m f) (f m) (k m (omega arith) (omega arith)) ∙ rest (omega arith)
+
+-- two tests of one answer
+pub below-same : (n : ℕ) (f g : ℕ → Bool) → ((i : ℕ) → i < n → f i ≡ g i) → allBelow n f ≡ allBelow n g
+unfolding allBelow
+below-same zero f g h = refl
+below-same (suc n) f g h = ap₂ _&&_ (below-same n f g (λ i l. h i (omega arith))) (h n (omega arith))
+
+-- ---- whether a time is above none of the lates, agent by agent
+
+abbrev pub aboveNone : (ls : List ℕ) (t n : ℕ) → Bool
+aboveNone ls t n = allBelow n (λ a. leb t (getD ls a 0))
+
+module _ (ls : List ℕ) (t n : ℕ) where
+  pub one-above : getD ls n 0 < t → false ≡ aboveNone ls t (n + 1)
+  one-above h = sym (below-suc n _ ∙ and-right (aboveNone ls t n) (leb t (getD ls n 0)) (lt-leb t (getD ls n 0) h))
+
+  pub not-above : t ≤ getD ls n 0 → aboveNone ls t n ≡ aboveNone ls t (n + 1)
+  not-above h = sym (below-suc n _ ∙ and-yes (aboveNone ls t n) (leb t (getD ls n 0)) (le-leb t (getD ls n 0) h))
+
+-- ---- one agent's late
+
+module _ (tb : List ℕ) (a p : ℕ) where
+  -- an agent that has ended sets no limit; one that has not, the late of its row
+  pub late-ended : rows tb a ≤ p → lateAt tb a p ≡ noLate
+  unfolding lateAt
+  late-ended h = rw (le-leb (rows tb a) p h)
+
+  pub late-row : p < rows tb a → lateAt tb a p ≡ row tb a p .late
+  unfolding lateAt
+  late-row h = rw (lt-leb (rows tb a) p h)
+
+module _ (tb st : List ℕ) (a t : ℕ) where
+  ended-free : rows tb a ≤ pos st a → (not (unfinished tb st a) || leb t (current tb st a .late)) ≡ true
+  unfolding unfinished
+  ended-free h = rw (le-ltb (pos st a) (rows tb a) h)
+
+  row-limit : pos st a < rows tb a → (not (unfinished tb st a) || leb t (current tb st a .late)) ≡ leb t (current tb st a .late)
+  unfolding unfinished
+  row-limit h = rw (lt-ltb (pos st a) (rows tb a) h)
+
+  -- the greatest word is no limit to a word
+  limit : t < 2 ^ 32 → leb t (lateAt tb a (pos st a)) ≡ (not (unfinished tb st a) || leb t (current tb st a .late))
+  limit w = go (decLt (pos st a) (rows tb a))
+    where
+      go : Dec (pos st a < rows tb a) → leb t (lateAt tb a (pos st a)) ≡ (not (unfinished tb st a) || leb t (current tb st a .late))
+      go (yes h) = ap (leb t) (late-row tb a (pos st a) h) ∙ sym (row-limit h)
+      go (no n) = ap (leb t) (late-ended tb a (pos st a) (omega arith)) ∙ le-leb t noLate (omega arith) ∙ sym (ended-free (omega arith))
+
+-- ---- all 16 places of agents
+
+module _ (tb : List ℕ) (good : goodTable tb ≡ true) where
+  pub short : (b : ℕ) → b < 16 → rows tb b ≤ 32
+  short b h = go (decLe (agents tb) b)
+    where
+      go : Dec (agents tb ≤ b) → rows tb b ≤ 32
+      go (yes l) = omega (arith, no-count tb (table-facts tb good) b l h)
+      go (no n) = few-rows tb good b (omega arith)
+
+  -- an agent past the count has ended, so that all 16 may be looked at
+  pub in-time-lates : (st ls : List ℕ) → Lates tb st ls → (t : ℕ) → t < 2 ^ 32 → aboveNone ls t 16 ≡ inTime tb st t
+  unfolding inTime
+  in-time-lates st ls l t w =
+      below-same 16 (λ a. leb t (getD ls a 0)) (λ a. not (unfinished tb st a) || leb t (current tb st a .late))
+      (λ a h. ap (leb t) (l .each a h) ∙ limit tb st a t w)
+      ∙ below-more (agents tb) 16 (λ a. not (unfinished tb st a) || leb t (current tb st a .late)) (few tb good)
+      (λ a h k. ended-free tb st a t (omega (arith, no-count tb (table-facts tb good) a h k)))
+
+-- ---- a step of agent a changes its late and no other
+
+pub late-changed : (tb st st′ ls : List ℕ) (a p v : ℕ) → a < 16 → Lates tb st ls → v ≡ lateAt tb a p → pos st′ a ≡ p
+    → ((b : ℕ) → b < 16 → b ≢ a → pos st′ b ≡ pos st b) → Lates tb st′ (set ls a v)
+late-changed tb st st′ ls a p v low l e own other = record {
+  size = length-set ls a v ∙ l .size;
+  each = λ b h. go b h (ℕ-discrete b a);
+}
+  where
+    go : (b : ℕ) → b < 16 → Dec (b ≡ a) → getD (set ls a v) b 0 ≡ lateAt tb b (pos st′ b)
+    go b h (yes d) = rw d (getD-set-same ls a v 0 (omega (arith, l .size)) ∙ e ∙ ap (lateAt tb a) (sym own))
+    go b h (no n) = getD-set-other ls a b v 0 n ∙ l .each b h ∙ ap (lateAt tb b) (sym (other b h n))

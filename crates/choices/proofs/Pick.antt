@@ -1,0 +1,163 @@
+-- Which agent can be run, and which is picked: the first of the least lates. Assumes nothing.
+use mathlib.Core.Path.{_≡_, refl, sym, ap, _∙_}
+use mathlib.Core.Logic.{_≢_, _⊎_, inl, inr}
+use mathlib.Core.Bool.{Bool, true, false, not, _&&_, cond}
+use mathlib.Core.List.{List}
+use Prim.Native.Nat.{ℕ, _+_, _≤_, _<_, _^_}
+use native.Mathlib.Decide.{decLt, ℕ-discrete}
+use native.Mathlib.Omega.{arith}
+use lib.Dec.{leb}
+use lib.ListN.{getD}
+use borrow.Author.Tests.{ltb-true, lt-ltb, le-ltb, lt-leb, le-leb, leb-true}
+use Rattle.tables.specs.Basics.{allBelow, firstBelow}
+use Rattle.tables.specs.Layout.{agents, rows, row}
+use Rattle.tables.specs.Table.{goodTable}
+use Rattle.tables.specs.declared.Row.{Row}
+use Rattle.tables.proofs.Tests.{and-both, and-left, and-right}
+use Rattle.tables.proofs.Passed.{and-1, and-2, all-below, not-all-below}
+use Rattle.tables.proofs.FirstBelow.{first-below-is}
+use Rattle.tables.proofs.Good.{few, table-facts, no-count, late-bound}
+use Rattle.choices.specs.State.{clock, pos}
+use Rattle.choices.specs.Fit.{unfinished, current, inTime}
+use Rattle.choices.specs.Step.{InTime, Allowed}
+use Rattle.choices.specs.Pick.{soonest, canGo, allEnded, hasLeastLate, pickedAgent}
+use Rattle.choices.specs.Lates.{noLate, lateAt, Lates}
+use Rattle.choices.proofs.Choice.{in-time, time-in}
+use Rattle.choices.proofs.Lates.{late-ended, late-row}
+
+module _ (tb st : List ℕ) (a : ℕ) where
+  live : unfinished tb st a ≡ true → pos st a < rows tb a
+  unfolding unfinished
+  live h = ltb-true (pos st a) (rows tb a) h
+
+  alive : pos st a < rows tb a → unfinished tb st a ≡ true
+  unfolding unfinished
+  alive h = lt-ltb (pos st a) (rows tb a) h
+
+  -- an agent that may be chosen at some time can go
+  pub can-go : (t : ℕ) → Allowed tb st a t → canGo tb st a ≡ true
+  unfolding canGo
+  can-go t c =
+      and-both (unfinished tb st a) (inTime tb st (soonest tb st a)) (alive (c .unended))
+      (time-in tb st (soonest tb st a) (λ b h l. omega (arith, c .late b h l, c .clock, c .early)))
+
+  -- and may then be chosen at the soonest
+  pub goes-soonest : a < agents tb → canGo tb st a ≡ true → Allowed tb st a (soonest tb st a)
+  unfolding canGo
+  goes-soonest low h =
+      record {
+        agent = low;
+        unended = live (and-1 (unfinished tb st a) (inTime tb st (soonest tb st a)) h);
+        clock = omega arith;
+        early = omega arith;
+        late = in-time tb st (soonest tb st a) (and-2 (unfinished tb st a) (inTime tb st (soonest tb st a)) h);
+      }
+
+  -- the later of the two, where the position, the row and the clock were read as p, r and t
+  module _ (p t : ℕ) (r : Row) (ep : p ≡ pos st a) (er : r ≡ row tb a p) (et : t ≡ clock st) where
+    early-is : r .early ≡ current tb st a .early
+    early-is = ap (λ (x : Row). x .early) er ∙ ap (λ (i : ℕ). row tb a i .early) ep
+
+    pub early-later : t < r .early → r .early ≡ soonest tb st a
+    early-later h = omega (arith, early-is)
+
+    pub clock-later : r .early ≤ t → t ≡ soonest tb st a
+    clock-later h = omega (arith, early-is)
+
+-- ---- the first of the least lates
+
+-- of the agents below b the one that is picked, and its late; 16 and none where all of them have ended
+abbrev FoundBelow : (ls : List ℕ) (b a least : ℕ) → Type 0
+FoundBelow ls b a least =
+    ((a ≡ 16) × (least ≡ noLate)) ⊎ ((a < b) × (getD ls a 0 ≡ least) × (least < noLate) × ((j : ℕ) → j < a → least < getD ls j 0))
+
+pub record FirstLeast (ls : List ℕ) (b a least : ℕ) : Type 0 where
+  pub lowest : (j : ℕ) → j < b → least ≤ getD ls j 0
+  pub found : FoundBelow ls b a least
+
+module _ (ls : List ℕ) where
+  pub least-none : FirstLeast ls 0 16 noLate
+  least-none = record { lowest = λ j h. absurd (omega arith); found = inl (refl, refl) }
+
+  module _ (b a least : ℕ) (f : FirstLeast ls b a least) where
+    bounded : FoundBelow ls b a least → least ≤ noLate
+    bounded (inl (e, k)) = omega arith
+    bounded (inr (h, e, k, before)) = omega arith
+
+    pub least-new : (late a′ least′ : ℕ) → late ≡ getD ls b 0 → late < least → a′ ≡ b → least′ ≡ late → FirstLeast ls (b + 1) a′ least′
+    least-new late a′ least′ el h ea em = record {
+      lowest = λ j l. go j l (ℕ-discrete j b);
+      found = inr (omega arith, (rw ea (sym el ∙ sym em)), omega (arith, bounded (f .found)), λ j l. omega (arith, f .lowest j (omega arith)));
+    }
+      where
+        go : (j : ℕ) → j < b + 1 → Dec (j ≡ b) → least′ ≤ getD ls j 0
+        go j l (yes e) = rw e (omega arith)
+        go j l (no n) = omega (arith, f .lowest j (omega arith))
+
+    pub least-kept : (late a′ least′ : ℕ) → late ≡ getD ls b 0 → least ≤ late → a′ ≡ a → least′ ≡ least → FirstLeast ls (b + 1) a′ least′
+    least-kept late a′ least′ el h ea em = record { lowest = λ j l. go j l (ℕ-discrete j b); found = rw (ea, em) (further (f .found)) }
+      where
+        go : (j : ℕ) → j < b + 1 → Dec (j ≡ b) → least′ ≤ getD ls j 0
+        go j l (yes e) = rw e (omega arith)
+        go j l (no n) = omega (arith, f .lowest j (omega arith))
+
+        further : FoundBelow ls b a least → FoundBelow ls (b + 1) a least
+        further (inl x) = inl x
+        further (inr (h, e, k, before)) = inr (omega arith, e, k, before)
+
+module _ (tb st ls : List ℕ) (good : goodTable tb ≡ true) (l : Lates tb st ls) where
+  -- an agent's late is its row's where it is unfinished, which is below none
+  own-late : (a : ℕ) → a < agents tb → pos st a < rows tb a → (getD ls a 0 ≡ current tb st a .late) × (current tb st a .late < noLate)
+  own-late a h k =
+      (l .each a (omega (arith, few tb good)) ∙ late-row tb a (pos st a) k, omega (arith, late-bound tb good a h (pos st a) k))
+
+  -- an agent of some late is one that there is, and unfinished
+  some-late : (a : ℕ) → a < 16 → getD ls a 0 < noLate → (a < agents tb) × (pos st a < rows tb a)
+  some-late a h k = go (decLt (pos st a) (rows tb a)) (decLt a (agents tb))
+    where
+      go : Dec (pos st a < rows tb a) → Dec (a < agents tb) → (a < agents tb) × (pos st a < rows tb a)
+      go (yes p) (yes q) = (q, p)
+      go (yes p) (no q) = absurd (omega (arith, no-count tb (table-facts tb good) a (omega arith) h))
+      go (no p) q = absurd (omega (arith, l .each a h ∙ late-ended tb a (pos st a) (omega arith)))
+
+  ended-all : ((a : ℕ) → a < 16 → noLate ≤ getD ls a 0) → allEnded tb st ≡ true
+  unfolding allEnded unfinished
+  ended-all h = all-below (agents tb) _ (λ a k. go a k (decLt (pos st a) (rows tb a)))
+    where
+      go : (a : ℕ) → a < agents tb → Dec (pos st a < rows tb a) → not (unfinished tb st a) ≡ true
+      go a k (yes p) = let q = own-late a k p in absurd (omega (arith, q .0, q .1, h a (omega (arith, few tb good))))
+      go a k (no p) = rw (le-ltb (pos st a) (rows tb a) (omega arith))
+
+  module _ (a : ℕ) (h : a < agents tb) (k : pos st a < rows tb a) where
+    not-ended : allEnded tb st ≡ false
+    unfolding allEnded
+    not-ended = not-all-below (agents tb) (λ b. not (unfinished tb st b)) a h (rw (alive tb st a k))
+
+    -- an agent below it is not the least where its late is greater
+    not-least : (j : ℕ) → j < agents tb → current tb st a .late < getD ls j 0 → hasLeastLate tb st j ≡ false
+    unfolding hasLeastLate unfinished
+    not-least j q above = go (decLt (pos st j) (rows tb j)) (inTime tb st (current tb st j .late)) refl
+      where
+        go : Dec (pos st j < rows tb j) → (v : Bool) → inTime tb st (current tb st j .late) ≡ v → (unfinished tb st j && inTime tb st (current tb st j .late)) ≡ false
+        go (no n) v e = and-left _ _ (le-ltb (pos st j) (rows tb j) (omega arith))
+        go (yes n) false e = and-right (unfinished tb st j) _ e
+        go (yes n) true e = absurd (omega (arith, in-time tb st (current tb st j .late) e a h k, own-late j q n .0))
+
+    first-least : ((b : ℕ) → b < agents tb → pos st b < rows tb b → current tb st a .late ≤ current tb st b .late)
+        → ((j : ℕ) → j < a → current tb st a .late < getD ls j 0) → pickedAgent tb st ≡ a
+    unfolding pickedAgent hasLeastLate
+    first-least least before =
+        first-below-is (agents tb) (hasLeastLate tb st) a h
+        (and-both (unfinished tb st a) (inTime tb st (current tb st a .late)) (alive tb st a k) (time-in tb st (current tb st a .late) least))
+        (λ j q. not-least j (omega arith) (before j q))
+
+  pub least-picked : (a least : ℕ) → FirstLeast ls 16 a least → a ≡ cond (allEnded tb st) 16 (pickedAgent tb st)
+  least-picked a least f = go (f .found)
+    where
+      go : FoundBelow ls 16 a least → a ≡ cond (allEnded tb st) 16 (pickedAgent tb st)
+      go (inl (e, none)) = rw (ended-all (λ j h. omega (arith, f .lowest j h))) e
+      go (inr (h, e, k, before)) =
+          let (q, p) = some-late a h (omega arith) in
+          let late = own-late a q p .0 in
+          rw (not-ended a q p)
+          (sym (first-least a q p (λ b x y. omega (arith, own-late b x y .0, f .lowest b (omega (arith, few tb good)))) (λ j x. omega (arith, before j x))))

@@ -1,0 +1,22 @@
+-- Vocabulary of the code alone, as Registers is: while choices are worked out the lates of the agents' current rows stand in a list of their own. Assumes nothing.
+use mathlib.Core.Path.{_≡_}
+use mathlib.Core.Bool.{cond}
+use mathlib.Core.List.{List}
+use Prim.Native.Nat.{ℕ, _<_}
+use lib.Dec.{leb}
+use lib.ListN.{length, getD}
+use Rattle.tables.specs.Layout.{rows, row}
+use Rattle.choices.specs.State.{pos}
+
+-- the greatest word, which no time is above: the late of an agent that has ended
+abbrev pub noLate : ℕ
+noLate = 4294967295
+
+-- the late of agent a at position p
+unfoldable pub lateAt : (tb : List ℕ) (a p : ℕ) → ℕ
+lateAt tb a p = cond (leb (rows tb a) p) noLate (row tb a p .late)
+
+-- the list ls has the late of each agent's current row
+pub record Lates (tb st ls : List ℕ) : Type 0 where
+  pub size : length ls ≡ 16
+  pub each : (a : ℕ) → a < 16 → getD ls a 0 ≡ lateAt tb a (pos st a)
