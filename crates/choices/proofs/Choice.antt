@@ -15,6 +15,18 @@ use Rattle.choices.specs.State.{clock, pos}
 use Rattle.choices.specs.Fit.{unfinished, current, inTime}
 use Rattle.choices.specs.Step.{choiceReply, InTime, Allowed}
 
+-- no rule of the list whose test holds has the number n
+abbrev pub lacks : ℕ → List Rule → Bool
+lacks n [] = not (eqb 0 n)
+lacks n ((b ⇒ r) ∷ rs) = not (eqb r n && b) && lacks n rs
+
+pub lacking : (n : ℕ) (rs : List Rule) → lacks n rs ≡ true → first rs ≢ n
+unfolding first
+lacking n [] h e = eqb-false 0 n (not-true (eqb 0 n) h) e
+lacking n ((true ⇒ r) ∷ rs) h e =
+    false≢true (sym (not-true (eqb r n && true) (and-1 (not (eqb r n && true)) (lacks n rs) h)) ∙ and-both (eqb r n) true (eq-eqb r n e) refl)
+lacking n ((false ⇒ r) ∷ rs) h e = lacking n rs (and-2 (not (eqb r n && false)) (lacks n rs) h) e
+
 module _ (tb st : List ℕ) where
   pub in-time : (t : ℕ) → inTime tb st t ≡ true → InTime tb st t
   unfolding inTime unfinished

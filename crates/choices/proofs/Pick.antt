@@ -1,7 +1,7 @@
 -- Which agent can be run, and which is picked: the first of the least lates. Assumes nothing.
 use mathlib.Core.Path.{_≡_, refl, sym, ap, _∙_}
 use mathlib.Core.Logic.{_≢_, _⊎_, inl, inr}
-use mathlib.Core.Bool.{Bool, true, false, not, _&&_, cond}
+use mathlib.Core.Bool.{Bool, true, false, not, _&&_}
 use mathlib.Core.List.{List}
 use Prim.Native.Nat.{ℕ, _+_, _≤_, _<_, _^_}
 use native.Mathlib.Decide.{decLt, ℕ-discrete}
@@ -21,7 +21,7 @@ use Rattle.choices.specs.State.{clock, pos}
 use Rattle.choices.specs.Fit.{unfinished, current, inTime}
 use Rattle.choices.specs.Step.{InTime, Allowed}
 use Rattle.choices.specs.Pick.{soonest, canGo, allEnded, hasLeastLate, pickedAgent}
-use Rattle.choices.specs.Lates.{noLate, lateAt, Lates}
+use Rattle.choices.specs.Lates.{noLate, Lates, Picks}
 use Rattle.choices.proofs.Choice.{in-time, time-in}
 use Rattle.choices.proofs.Lates.{late-ended, late-row}
 
@@ -151,13 +151,26 @@ module _ (tb st ls : List ℕ) (good : goodTable tb ≡ true) (l : Lates tb st l
         (and-both (unfinished tb st a) (inTime tb st (current tb st a .late)) (alive tb st a k) (time-in tb st (current tb st a .late) least))
         (λ j q. not-least j (omega arith) (before j q))
 
-  pub least-picked : (a least : ℕ) → FirstLeast ls 16 a least → a ≡ cond (allEnded tb st) 16 (pickedAgent tb st)
-  least-picked a least f = go (f .found)
-    where
-      go : FoundBelow ls 16 a least → a ≡ cond (allEnded tb st) 16 (pickedAgent tb st)
-      go (inl (e, none)) = rw (ended-all (λ j h. omega (arith, f .lowest j h))) e
-      go (inr (h, e, k, before)) =
-          let (q, p) = some-late a h (omega arith) in
-          let late = own-late a q p .0 in
-          rw (not-ended a q p)
-          (sym (first-least a q p (λ b x y. omega (arith, own-late b x y .0, f .lowest b (omega (arith, few tb good)))) (λ j x. omega (arith, before j x))))
+  -- what the loop has found once all are passed
+  module _ (a least : ℕ) (f : FirstLeast ls 16 a least) where
+    pub all-have-ended : a ≡ 16 → allEnded tb st ≡ true
+    all-have-ended e = go (f .found)
+      where
+        go : FoundBelow ls 16 a least → allEnded tb st ≡ true
+        go (inl (_, none)) = ended-all (λ j h. omega (arith, f .lowest j h))
+        go (inr (h, _, _, _)) = absurd (omega arith)
+
+    pub one-picked : a ≢ 16 → Picks tb st a
+    one-picked n = go (f .found)
+      where
+        go : FoundBelow ls 16 a least → Picks tb st a
+        go (inl (e, _)) = absurd (n e)
+        go (inr (h, e, k, before)) =
+            let (q, p) = some-late a h (omega arith) in
+            let late = own-late a q p .0 in
+            record {
+              some = not-ended a q p;
+              agent = q;
+              unended = p;
+              is = sym (first-least a q p (λ b x y. omega (arith, own-late b x y .0, f .lowest b (omega (arith, few tb good)))) (λ j x. omega (arith, before j x)));
+            }

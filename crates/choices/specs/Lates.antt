@@ -1,12 +1,13 @@
 -- Vocabulary of the code alone, as Registers is: while choices are worked out the lates of the agents' current rows stand in a list of their own. Assumes nothing.
 use mathlib.Core.Path.{_≡_}
-use mathlib.Core.Bool.{cond}
+use mathlib.Core.Bool.{false, cond}
 use mathlib.Core.List.{List}
 use Prim.Native.Nat.{ℕ, _<_}
 use lib.Dec.{leb}
 use lib.ListN.{length, getD}
-use Rattle.tables.specs.Layout.{rows, row}
+use Rattle.tables.specs.Layout.{agents, rows, row}
 use Rattle.choices.specs.State.{pos}
+use Rattle.choices.specs.Pick.{allEnded, pickedAgent}
 
 -- the greatest word, which no time is above: the late of an agent that has ended
 abbrev pub noLate : ℕ
@@ -20,3 +21,10 @@ lateAt tb a p = cond (leb (rows tb a) p) noLate (row tb a p .late)
 pub record Lates (tb st ls : List ℕ) : Type 0 where
   pub size : length ls ≡ 16
   pub each : (a : ℕ) → a < 16 → getD ls a 0 ≡ lateAt tb a (pos st a)
+
+-- some agent is unfinished, and a is the one of them that is picked
+pub record Picks (tb st : List ℕ) (a : ℕ) : Type 0 where
+  pub some : allEnded tb st ≡ false
+  pub agent : a < agents tb
+  pub unended : pos st a < rows tb a
+  pub is : a ≡ pickedAgent tb st

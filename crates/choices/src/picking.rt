@@ -6,18 +6,20 @@ use crate::layout::position;
 use tables::layout::MOST_AGENTS;
 use tables::rows::row_at;
 ghost use mathlib.Core.Path.{_≡_};
-ghost use mathlib.Core.Bool.{true, cond};
+ghost use mathlib.Core.Logic.{_≢_};
+ghost use mathlib.Core.Bool.{true};
 ghost use Prim.Native.Nat.{_≤_, _<_};
 ghost use lib.ListN.{length};
 ghost use Rattle.tables.specs.Layout.{tableWords};
 ghost use Rattle.tables.specs.Table.{goodTable};
 ghost use Rattle.choices.specs.State.{pos, stateWords};
 ghost use Rattle.choices.specs.Pick as Pick;
+ghost use Rattle.choices.specs.Lates.{Picks};
 
 // The unfinished agent of the least late, of equal lates the lowest number; 16 where all have ended.
 pub fn picked_agent(table: &[u32], state: &[u32]) -> usize
     requires { ⌜ (length (now table) ≡ tableWords) × (length (now state) ≡ stateWords) × (goodTable (now table) ≡ true) ⌝ }
-    ensures { λ r. ⌜ r ≡ cond (Pick.allEnded (now (table .entry)) (now (state .entry))) 16 (Pick.pickedAgent (now (table .entry)) (now (state .entry))) ⌝ }
+    ensures { λ r. ⌜ ((r ≡ 16 → Pick.allEnded (now (table .entry)) (now (state .entry)) ≡ true) × (r ≢ 16 → Picks (now (table .entry)) (now (state .entry)) r)) ⌝ }
 {
     let lates = load_lates(table, state);
     let mut a = MOST_AGENTS;

@@ -6,11 +6,12 @@ use Prim.Native.Nat.{ℕ, _+_, _%_, _^_}
 use lib.Dec.{ltb, leb, eqb}
 use lib.ListN.{getD, set, take, drop}
 use Rattle.pharos.specs.Published.{Instruction, local, send, receive, Dated, exact, Messages, Types, SystemState}
+use Rattle.tables.specs.Basics.{firstBelow}
 use Rattle.tables.specs.Layout.{agents, rows, row, startPlace}
 use Rattle.tables.specs.declared.Row.{Row}
 use Rattle.choices.specs.declared.Agent.{Agent}
 use Rattle.choices.specs.State.{clock, mark, value, agentAt}
-use Rattle.executive.specs.Numbers.{bit, bits, firstBelow}
+use Rattle.executive.specs.Numbers.{bit, bits}
 
 -- ---- 01's table of rows, its last column, in words of the model's own: nothing of the executive's `after` is named here
 

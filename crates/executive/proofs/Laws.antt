@@ -7,21 +7,21 @@ use native.Mathlib.Omega.{arith}
 use Rattle.tables.specs.Paths.{GoesOn, Path, here, on}
 use Rattle.tables.proofs.Good.{few, few-rows}
 use Rattle.tables.proofs.Paths.{windows-climb}
-use Rattle.executive.specs.Laws.{BestIsTaken, NoneIsTaken, NextDepends, AcceptedExactly, StuckExactly, NeverStuck, StartFits, StepKeepsFit, GoesOnExactly, StepGoesOn, RunIsPath, EarlierNeverComes, SendIsSent, RunIsSteps, RunCounts}
+use Rattle.executive.specs.Laws.{BestIsTaken, NoneIsTaken, NextDepends, AcceptedExactly, CanGoExactly, StartFits, StepKeepsFit, GoesOnExactly, StepGoesOn, RunIsPath, EarlierNeverComes, SendIsSent, RunIsSteps, RunCounts}
 use Rattle.choices.specs.State.{pos}
 use Rattle.choices.specs.Step.{choiceReply, accepted}
+use Rattle.choices.specs.Pick.{soonest}
 use Rattle.executive.specs.Run.{RunOutcome, runFrom}
 use Rattle.choices.proofs.After.{accepted-length, accepted-pos-other, sent-own-mark, sent-own-value}
 use Rattle.choices.proofs.Onward.{after-goes, way-taken, pos-goes}
 use Rattle.choices.proofs.Choice.{allowed, allowed-reply}
-use Rattle.executive.proofs.Fitting.{fits-says}
+use Rattle.choices.proofs.Pick.{can-go, goes-soonest}
 use Rattle.executive.proofs.Start.{start-length}
 use Rattle.executive.proofs.Runs.{run-go, run-stop}
 use Rattle.executive.proofs.Fits.{start-fits, accepted-fits}
 use Rattle.executive.proofs.OneByOne.{run-is-steps as steps}
 use Rattle.executive.proofs.Counted.{run-count, run-few}
 use Rattle.executive.proofs.Taken.{best-taken, best-none}
-use Rattle.executive.proofs.Stuck.{stuck-exactly as exactly, never-stuck as never}
 use Rattle.executive.proofs.Depends.{depends}
 
 pub best-is-taken : BestIsTaken
@@ -37,11 +37,8 @@ next-depends tb st st′ s s′ a t t′ c c′ same seen =
 pub accepted-exactly : AcceptedExactly
 accepted-exactly tb st a t = (allowed tb st a t, allowed-reply tb st a t)
 
-pub stuck-exactly : StuckExactly
-stuck-exactly = exactly
-
-pub never-stuck : NeverStuck
-never-stuck tb st s a low live = never tb st (s .good) (fits-says tb st (s .fit)) a low live
+pub can-go-exactly : CanGoExactly
+can-go-exactly tb st a low = (λ h. (soonest tb st a, goes-soonest tb st a low h), λ w. can-go tb st a (w .0) (w .1))
 
 pub start-fits-its-table : StartFits
 start-fits-its-table tb good long = record {

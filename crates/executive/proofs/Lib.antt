@@ -7,11 +7,11 @@ pub mod Ready
 pub mod OneByOne
 pub mod Counted
 pub mod Taken
-pub mod Stuck
 pub mod Depends
 pub mod Numbers
 pub mod Effects
 pub mod Laws
 pub mod Outcomes
+pub mod PickedBy
 pub mod RunOn
 pub mod Marks

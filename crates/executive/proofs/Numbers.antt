@@ -8,6 +8,8 @@ use native.Mathlib.Decide.{decLt}
 use native.Mathlib.Omega.{arith}
 use lib.Dec.{eqb}
 use borrow.Author.Tests.{eq-eqb, ne-eqb}
+use Rattle.tables.specs.Basics.{firstBelow}
+use Rattle.tables.proofs.FirstBelow.{first-below-is, first-below-none}
 use Rattle.executive.specs.Numbers.{bit, bits, Lowest}
 use lib.Count.{onesIn, trailingZeros, under}
 

@@ -11,18 +11,20 @@ use lib.ListN.{length, take, drop, getD, set, length-take, length-drop, length-s
 use lib.Seq.{drop-cons, getD-set-same, getD-set-other, ext-getD}
 use Rattle.tables.specs.Table.{goodTable}
 use Rattle.choices.specs.declared.Agent.{Agent}
-use Rattle.choices.specs.State.{agentAt, regPlace}
+use Rattle.choices.specs.State.{pos, agentAt, posPlace, regPlace}
 use Rattle.choices.specs.Fit.{fits}
 use Rattle.choices.specs.Step.{choiceReply, accepted}
 use Rattle.choices.specs.Registers.{around, listed, register, withRegs, Acted, acted, actInto}
+use Rattle.choices.specs.Lates.{lateAt, Lates}
 use Rattle.executive.specs.Run.{RunOutcome, ended, runFrom}
 use Rattle.choices.proofs.Lists.{getD-part}
-use Rattle.choices.proofs.After.{accepted-length, accepted-other}
+use Rattle.choices.proofs.After.{accepted-length, accepted-other, accepted-pos-other}
+use Rattle.choices.proofs.Lates.{late-changed}
 use Rattle.executive.proofs.Fitting.{fits-says}
 use Rattle.executive.proofs.Outcomes.{wordsAfter}
 use Rattle.executive.proofs.Runs.{run-go, run-stop, count-within}
-use Rattle.choices.proofs.Around.{listed-length, listed-at, around-length, around-own, around-around}
-use Rattle.choices.proofs.Choosing.{whole-length, whole-register, chosen-low}
+use Rattle.choices.proofs.Around.{listed-length, listed-at, around-length, around-low, around-own, around-around}
+use Rattle.choices.proofs.Choosing.{whole-length, whole-low, whole-register, chosen-low}
 
 -- ---- the choices left
 
@@ -101,6 +103,13 @@ module _ (tb st : List ℕ) (g : List (List ℕ)) (a t : ℕ) where
           (listed-length (register (set g a (agentAt after a .regs))) 64)
           ∙ ap (around after) listed-are
           ∙ around-own after (omega (arith, after-length))
+
+      -- the lates afterwards
+      pub lates-after : (ls : List ℕ) → Lates tb st ls → (late : ℕ) → late ≡ lateAt tb a (q .pos) → Lates tb ws (set ls a late)
+      lates-after ls l late e =
+          let same : (b : ℕ) → b < 16 → pos ws b ≡ pos after b = λ b h. ap (λ (w : List ℕ). pos w b) words-are ∙ around-low after (take 64 (drop 17 st)) (omega (arith, after-length)) own-length (posPlace b) (omega arith) in
+          late-changed tb st ws ls a (q .pos) late low l e (same a low ∙ sym (ap (λ (s : Agent). s .pos) agent-is))
+          (λ b h n. same b h ∙ accepted-pos-other tb (withRegs st g) a t (whole-length st g long) low b h n ∙ whole-low st g long (posPlace b) (omega arith))
 
       pub accepted-run : choiceReply tb (withRegs st g) a t ≡ 0 → (n : ℕ) (cs : List ℕ) → runFrom tb (withRegs st g) n (a ∷ t ∷ cs) ≡ runFrom tb (withRegs ws (set g a (q .regs))) (n + 1) cs
       accepted-run h n cs = run-go tb (withRegs st g) n a t cs h ∙ ap (λ (l : List ℕ). runFrom tb l (n + 1) cs) (sym whole-after)

@@ -12,6 +12,7 @@ use Rattle.tables.specs.Table.{goodTable}
 use Rattle.choices.specs.State.{stateWords, startWords}
 use Rattle.choices.specs.Fit.{fits}
 use Rattle.choices.specs.Step.{choiceReply, accepted}
+use Rattle.choices.specs.Pick.{soonest, allEnded, pickedAgent}
 use Rattle.executive.specs.Run.{RunOutcome, ended, runFrom}
 
 abbrev pub tablePart : List ℕ → List ℕ
@@ -58,7 +59,7 @@ only-started tb st r s after other p q = p ∙ sym q
 
 -- ---- step
 
--- "Step, 1, 8, 9, then 10 to 15 in that order"
+-- "Step, 1, 8, 9, then 10 to 15 in that order"; 14 is reserved, and no call gives it
 unfoldable pub stepReply : (tb st : List ℕ) (a t : ℕ) → ℕ
 stepReply tb st a t =
     first
@@ -113,3 +114,39 @@ Ran tb st cs r n after = ended r n after ≡ runInto tb st cs
 pub only-ran : (tb st cs : List ℕ) (r s n m : ℕ) (after other : List ℕ) → Ran tb st cs r n after → Ran tb st cs s m other
     → ended r n after ≡ ended s m other
 only-ran tb st cs r s n m after other p q = p ∙ sym q
+
+-- ---- pick
+
+-- a reply, and the agent and the time that are picked
+pub record PickOutcome : Type 0 where
+  pub reply : ℕ
+  pub agent : ℕ
+  pub time : ℕ
+
+abbrev pub picked : (reply agent time : ℕ) → PickOutcome
+picked r a t = record { reply = r; agent = a; time = t }
+
+-- "Refusals 1, 8, 9, then 11 where all agents have ended"
+unfoldable pub pickReply : (tb st : List ℕ) → ℕ
+pickReply tb st =
+    first
+    ((ltb (length tb) tableWords ⇒ 1)
+    ∷ (ltb (length st) stateWords ⇒ 1)
+    ∷ (not (goodTable (tablePart tb)) ⇒ 8)
+    ∷ (not (fits (tablePart tb) (statePart st)) ⇒ 9)
+    ∷ (allEnded (tablePart tb) (statePart st) ⇒ 11)
+    ∷ [])
+
+-- "agent and time are 0 with a refusal"
+unfoldable pub pickFrom : (tb st : List ℕ) → PickOutcome
+pickFrom tb st =
+    elim (pickReply tb st) [
+      | zero ↦ let a = pickedAgent (tablePart tb) (statePart st) in picked 0 a (soonest (tablePart tb) (statePart st) a)
+      | suc r ↦ picked (suc r) 0 0
+    ]
+
+abbrev pub Picked : (tb st : List ℕ) (reply agent time : ℕ) → Type 0
+Picked tb st r a t = picked r a t ≡ pickFrom tb st
+
+pub only-picked : (tb st : List ℕ) (r s a b t u : ℕ) → Picked tb st r a t → Picked tb st s b u → picked r a t ≡ picked s b u
+only-picked tb st r s a b t u p q = p ∙ sym q

@@ -1,7 +1,7 @@
 -- Laws that show the definitions to mean what 01 says: each as a statement, in 01's words. proofs/Laws.antt proves each under its own name. Assumes nothing.
 use mathlib.Core.Path.{_≡_}
 use mathlib.Core.Logic.{_↔_, _⊎_}
-use mathlib.Core.Bool.{true, false}
+use mathlib.Core.Bool.{true}
 use mathlib.Core.List.{List, [], _∷_}
 use Prim.Native.Nat.{ℕ, zero, suc, _+_, _≤_, _<_}
 use lib.ListN.{length}
@@ -18,7 +18,8 @@ use Rattle.choices.specs.State.{pos, mark, value, Pool, pool, agentAt, startWor
 use Rattle.choices.specs.Messages.{visible, best}
 use Rattle.choices.specs.Effect.{after}
 use Rattle.choices.specs.Fit.{current, fits}
-use Rattle.choices.specs.Step.{choiceReply, Allowed, stuck, accepted}
+use Rattle.choices.specs.Step.{choiceReply, Allowed, accepted}
+use Rattle.choices.specs.Pick.{canGo}
 use Rattle.executive.specs.Effects.{heldX}
 use Rattle.executive.specs.Run.{RunOutcome, ended, runFrom}
 use Rattle.executive.specs.Calls.{startInto, stepInto, runRefusal, runInto}
@@ -70,18 +71,14 @@ NextDepends = (tb st st′ : List ℕ) → Sound tb st → Sound tb st′ → (a
     → agentAt st a ≡ agentAt st′ a → SameSeen tb (rows tb) (pool st) (pool st′) (current tb st a)
     → agentAt (accepted tb st a t) a ≡ agentAt (accepted tb st′ a t′) a
 
--- ---- acceptance and 14
+-- ---- acceptance
 
 abbrev pub AcceptedExactly : Type 0
 AcceptedExactly = (tb st : List ℕ) (a t : ℕ) → choiceReply tb st a t ≡ 0 ↔ Allowed tb st a t
 
--- 14's test holds exactly where no agent and no time at all would be accepted, whether or not the state fits
-abbrev pub StuckExactly : Type 0
-StuckExactly = (tb st : List ℕ) → stuck tb st ≡ true ↔ ((a t : ℕ) → Allowed tb st a t → ⊥)
-
--- and that is nowhere in a state that fits, as long as some agent is unfinished
-abbrev pub NeverStuck : Type 0
-NeverStuck = (tb st : List ℕ) → Sound tb st → (a : ℕ) → a < agents tb → pos st a < rows tb a → stuck tb st ≡ false
+-- an agent can go exactly where some time would be accepted for it, whether or not the state fits
+abbrev pub CanGoExactly : Type 0
+CanGoExactly = (tb st : List ℕ) (a : ℕ) → a < agents tb → canGo tb st a ≡ true ↔ ((t : ℕ) × Allowed tb st a t)
 
 -- ---- the fit
 

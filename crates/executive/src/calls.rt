@@ -1,17 +1,23 @@
 // The calls on lent words: of any words, any lengths and any numbers. What stands past a table's or a state's words is neither read nor written.
+use crate::Picked;
 use crate::Ran;
 use crate::checking::state_fits;
 use crate::running::run_choices;
 use crate::running::take_choices;
 use crate::starting::put_start;
 use choices::layout::STATE_WORDS;
+use choices::picking::picked_agent;
+use choices::picking::soonest;
 use tables::checking::table_is_good;
+use tables::layout::MOST_AGENTS;
 use tables::layout::TABLE_WORDS;
 use tables::replies::ACCEPTED;
+use tables::replies::AGENT_ENDED;
 use tables::replies::BAD_STATE;
 use tables::replies::BAD_TABLE;
 use tables::replies::BUFFER_TOO_SHORT;
 use tables::replies::ODD_CHOICES;
+ghost use mathlib.Core.Path.{_≡_};
 ghost use Rattle.executive.specs.Calls as Calls;
 
 // Replies 1, 8 or 0; where it is 0 the start state stands in the state's words.
@@ -32,7 +38,7 @@ pub fn start(table: &[u32], state: &mut [u32]) -> u32
     ACCEPTED
 }
 
-// Replies 1, 8, 9, 10 to 15 or 0; where it is 0 the state's words are those after the step.
+// Replies 1, 8, 9, 10 to 13, 15 or 0; where it is 0 the state's words are those after the step.
 pub fn step(table: &[u32], state: &mut [u32], agent: u32, time: u32) -> u32
     ensures { λ r. ⌜ Calls.Stepped (now (table .entry)) (now (state .entry)) agent time r (now (state .exit)) ⌝ }
 {
@@ -84,4 +90,44 @@ pub fn run(table: &[u32], state: &mut [u32], choices: &[u32]) -> Ran
         };
     }
     run_choices(tb, &mut state[..STATE_WORDS], choices)
+}
+
+// The pick that is refused.
+fn none_picked(reply: u32) -> Picked
+    ensures { λ r. ⌜ (r .reply ≡ reply) × (r .agent ≡ 0) × (r .time ≡ 0) ⌝ }
+{
+    Picked {
+        reply,
+        agent: 0,
+        time: 0,
+    }
+}
+
+// Replies 1, 8, 9 or 11; or the unfinished agent of the least late, at the soonest that it may be run at, and 0: `step` accepts that choice.
+pub fn pick(table: &[u32], state: &[u32]) -> Picked
+    ensures { λ r. ⌜ Calls.Picked (now (table .entry)) (now (state .entry)) (r .reply) (r .agent) (r .time) ⌝ }
+{
+    if table.len() < TABLE_WORDS {
+        return none_picked(BUFFER_TOO_SHORT);
+    }
+    if state.len() < STATE_WORDS {
+        return none_picked(BUFFER_TOO_SHORT);
+    }
+    let tb = &table[..TABLE_WORDS];
+    if !table_is_good(tb) {
+        return none_picked(BAD_TABLE);
+    }
+    let st = &state[..STATE_WORDS];
+    if !state_fits(tb, st) {
+        return none_picked(BAD_STATE);
+    }
+    let a = picked_agent(tb, st);
+    if a == MOST_AGENTS {
+        return none_picked(AGENT_ENDED);
+    }
+    Picked {
+        reply: ACCEPTED,
+        agent: a as u32,
+        time: soonest(tb, st, a),
+    }
 }

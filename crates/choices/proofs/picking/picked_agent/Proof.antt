@@ -3,7 +3,7 @@ use mathlib.Core.Path.{_≡_, refl, subst}
 use mathlib.Core.Logic.{⊎-elim}
 use Prim.Native.Nat.{ℕ, _-_, _≤_}
 use native.Mathlib.Omega.{arith}
-use Rattle.choices.proofs.Pick.{FirstLeast, least-none, least-new, least-kept, least-picked}
+use Rattle.choices.proofs.Pick.{FirstLeast, least-none, least-new, least-kept, all-have-ended, one-picked}
 use Rattle.choices.proofs.picking.picked_agent.Statement.{statement}
 use Rattle.choices.proofs.picking.picked_agent.Tie as tie
 
@@ -32,7 +32,10 @@ returns c =
     let g = c .before .before .before .before .before in
     let e : l .b ≡ 16 = omega arith in
     let ls = c .before .before .load-lates .result in
-    least-picked (g .args .table .now) (g .args .state .now) ls (g .pre .2) (c .before .before .load-lates .ensures) (l .a) (l .least) (subst (λ (n : ℕ). FirstLeast ls n (l .a) (l .least)) e (l .inv .0))
+    let f = subst (λ (n : ℕ). FirstLeast ls n (l .a) (l .least)) e (l .inv .0) in (
+      all-have-ended (g .args .table .now) (g .args .state .now) ls (g .pre .2) (c .before .before .load-lates .ensures) (l .a) (l .least) f,
+      one-picked (g .args .table .now) (g .args .state .now) ls (g .pre .2) (c .before .before .load-lates .ensures) (l .a) (l .least) f,
+    )
 
 load-lates-requires : tie.Need-load-lates-requires Inv-loop μ-loop
 load-lates-requires c κs = c .before .before .pre

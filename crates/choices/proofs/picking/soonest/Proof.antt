@@ -17,10 +17,14 @@ clock-requires : tie.Need-clock-requires
 clock-requires c κs = search needs
 
 returns : tie.Need-returns
-returns c = early-later _ _ _ _ _ _ (c .before .before .before .before .position .ensures) (c .before .before .before .row-at .ensures) (c .before .before .clock .ensures) (c .if1 .taken)
+returns c =
+    let g = c .before .before .before .before .before .before .before .args in
+    early-later (g .table .now) (g .state .now) (g .a) _ _ _ (c .before .before .before .before .position .ensures) (c .before .before .before .row-at .ensures) (c .before .before .clock .ensures) (c .if1 .taken)
 
 returns-2 : tie.Need-returns-2
-returns-2 c = clock-later _ _ _ _ _ _ (c .before .before .before .before .position .ensures) (c .before .before .before .row-at .ensures) (c .before .before .clock .ensures) (c .if1 .left)
+returns-2 c =
+    let g = c .before .before .before .before .before .before .before .args in
+    clock-later (g .table .now) (g .state .now) (g .a) _ _ _ (c .before .before .before .before .position .ensures) (c .before .before .before .row-at .ensures) (c .before .before .clock .ensures) (c .if1 .left)
 
 pub soonest-spec : {M : Type 1} → statement M
 soonest-spec = tie.close (tie.spec position-requires cast-row-at row-at-requires clock-requires returns returns-2)

@@ -1,12 +1,12 @@
 -- `state_fits` meets its contract: the tests of `fits` in their order, of the clock that was read. Assumes nothing.
 use mathlib.Core.Path.{_∙_}
 use native.Mathlib.Omega.{arith}
-use Prim.Native.Nat.{_<_, _^_}
 use borrow.Author.Tests.{le-leb, lt-leb}
 use Rattle.tables.proofs.Good.{few}
 use Rattle.tables.proofs.Tests.{refused, granted}
 use Rattle.tables.proofs.Passed.{every-stop, every-go}
 use Rattle.choices.specs.Fit.{fits}
+use Rattle.choices.proofs.Lates.{in-time-lates}
 use borrow.Author.Needs.{needs}
 use Rattle.executive.proofs.checking.state_fits.Statement.{statement}
 use Rattle.executive.proofs.checking.state_fits.Tie as tie
@@ -25,19 +25,26 @@ returns-2 c =
     (every-go _ _ _ (le-leb _ _ (c .before .if1 .left))
     (every-stop _ _ (lt-leb _ _ (c .if2 .taken))))
 
-deadline-requires : tie.Need-deadline-requires
-deadline-requires c κs = search needs
+load-lates-requires : tie.Need-load-lates-requires
+load-lates-requires c κs = search needs
+
+slice-aggregate-is-in-time : tie.Need-slice-aggregate-is-in-time
+slice-aggregate-is-in-time c = search needs
+
+is-in-time-requires : tie.Need-is-in-time-requires
+is-in-time-requires c κs = c .before .load-lates .ensures .size
 
 returns-3 : tie.Need-returns-3
 unfolding fits
 returns-3 c =
-    let d = c .before .before in
+    let m = c .before .before .before in
+    let d = m .before in
     let k = d .before .before .clock in
-    let w : k .result < 2 ^ 32 = omega arith in
+    let g = d .before .before .before .before .before in
     rw (← k .ensures)
     (every-go _ _ _ (le-leb _ _ (d .before .if1 .left))
     (every-go _ _ _ (le-leb _ _ (d .if2 .left))
-    (every-stop _ _ (c .before .deadline .ensures (k .result) w ∙ lt-leb _ _ (c .if3 .taken)))))
+    (every-stop _ _ (refused _ _ (c .before .is-in-time .ensures ∙ in-time-lates (g .args .table .now) (g .pre .2) (g .args .state .now) _ (m .load-lates .ensures) (k .result) (omega arith)) (c .if3 .taken)))))
 
 agents-are-good-requires : tie.Need-agents-are-good-requires
 agents-are-good-requires c κs = search needs
@@ -46,13 +53,14 @@ returns-4 : tie.Need-returns-4
 unfolding fits
 returns-4 c =
     let e = c .before .before in
-    let d = e .before .before in
+    let m = e .before .before .before in
+    let d = m .before in
     let k = d .before .before .clock in
-    let w : k .result < 2 ^ 32 = omega arith in
+    let g = d .before .before .before .before .before in
     rw (← k .ensures)
     (every-go _ _ _ (le-leb _ _ (d .before .if1 .left))
     (every-go _ _ _ (le-leb _ _ (d .if2 .left))
-    (every-go _ _ _ (e .before .deadline .ensures (k .result) w ∙ le-leb _ _ (e .if3 .left))
+    (every-go _ _ _ (granted _ _ (e .before .is-in-time .ensures ∙ in-time-lates (g .args .table .now) (g .pre .2) (g .args .state .now) _ (m .load-lates .ensures) (k .result) (omega arith)) (e .if3 .left))
     (every-stop _ _ (refused _ _ (c .before .agents-are-good .ensures) (c .if4 .taken))))))
 
 agent-count-requires : tie.Need-agent-count-requires
@@ -63,7 +71,7 @@ cast-unused-are-zero c = search needs
 
 unused-are-zero-requires : tie.Need-unused-are-zero-requires
 unused-are-zero-requires c κs =
-    let g = c .before .before .before .before .before .before .before .before .before .before in
+    let g = c .before .before .before .before .before .before .before .before .before .before .before .before in
     let low = few (g .args .table .now) (g .pre .2) in
     omega arith
 
@@ -72,13 +80,14 @@ unfolding fits
 returns-5 c =
     let f = c .before .before in
     let e = f .before .before in
-    let d = e .before .before in
+    let m = e .before .before .before in
+    let d = m .before in
     let k = d .before .before .clock in
-    let w : k .result < 2 ^ 32 = omega arith in
+    let g = d .before .before .before .before .before in
     rw (← k .ensures, ← c .before .agent-count .ensures)
     (every-go _ _ _ (le-leb _ _ (d .before .if1 .left))
     (every-go _ _ _ (le-leb _ _ (d .if2 .left))
-    (every-go _ _ _ (e .before .deadline .ensures (k .result) w ∙ le-leb _ _ (e .if3 .left))
+    (every-go _ _ _ (granted _ _ (e .before .is-in-time .ensures ∙ in-time-lates (g .args .table .now) (g .pre .2) (g .args .state .now) _ (m .load-lates .ensures) (k .result) (omega arith)) (e .if3 .left))
     (every-go _ _ _ (rw (← c .before .agent-count .ensures) at (granted _ _ (f .before .agents-are-good .ensures) (f .if4 .left)))
     (c .unused-are-zero .ensures)))))
 
@@ -89,7 +98,9 @@ state-fits-spec =
     clock-requires
     returns
     returns-2
-    deadline-requires
+    load-lates-requires
+    slice-aggregate-is-in-time
+    is-in-time-requires
     returns-3
     agents-are-good-requires
     returns-4
