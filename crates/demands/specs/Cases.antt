@@ -14,7 +14,7 @@ use Rattle.choices.specs.State.{startWords}
 use Rattle.choices.specs.Messages.{best, lookAgents, lookRows, look, visible, beats}
 use Rattle.choices.specs.Effect.{after, receive}
 use Rattle.choices.specs.Fit.{inTime, unfinished}
-use Rattle.choices.specs.Step.{choiceReply, stuck, canGo, accepted, withAgent, withSent}
+use Rattle.choices.specs.Step.{choiceReply, accepted, withAgent, withSent}
 use Rattle.executive.specs.Calls.{runRefusal}
 use Rattle.digits.specs.Hex.{hexChar, hexDigits, hexLine}
 use Rattle.demands.specs.Steps.{step, stepsFrom, comesTo, passedInRun}
@@ -37,7 +37,7 @@ record Example : Type 0 where
   odd : through (0 ∷ 3 ∷ 1 ∷ []) 0 ≡ sender 0 ∷ []
 
 example : Example
-unfolding exampleTable through stepsFrom comesTo first every runRefusal startWords choiceReply stuck canGo inTime unfinished accepted withAgent withSent after receive best lookAgents lookRows look visible beats goodTable goodAgent goodRows rowReplyAt climbs climbsTo rowReply goesOnTo notAbove wellFormed fieldsFit namesOf within rowOf zeroFrom allZero allBelow
+unfolding exampleTable through stepsFrom comesTo first every runRefusal startWords choiceReply inTime unfinished accepted withAgent withSent after receive best lookAgents lookRows look visible beats goodTable goodAgent goodRows rowReplyAt climbs climbsTo rowReply goesOnTo notAbove wellFormed fieldsFit namesOf within rowOf zeroFrom allZero allBelow
 example = record { sends = refl; receives = refl; cut = refl; odd = refl }
 
 -- the output that 01 gives

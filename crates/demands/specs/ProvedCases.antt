@@ -19,7 +19,7 @@ use Rattle.choices.specs.State.{stateWords, posPlace, regPlace, startWords}
 use Rattle.choices.specs.Messages.{best, lookAgents, lookRows, look, visible, beats}
 use Rattle.choices.specs.Effect.{after, receive}
 use Rattle.choices.specs.Fit.{inTime, unfinished}
-use Rattle.choices.specs.Step.{choiceReply, stuck, canGo, accepted, withAgent, withSent}
+use Rattle.choices.specs.Step.{choiceReply, accepted, withAgent, withSent}
 use Rattle.executive.specs.Run.{runFrom}
 use Rattle.executive.specs.Calls.{runInto, runRefusal}
 use Rattle.digits.specs.Hex.{hexChar, hexDigits, hexLine}
@@ -41,7 +41,7 @@ agentsFrom st a zero = []
 agentsFrom st a (suc n) = getD st (posPlace a) 0 ∷ take 4 (drop (regPlace a) st) ++ agentsFrom st (a + 1) n
 
 holds : Case → Bool
-unfolding first every same text agentsFrom runInto runRefusal runFrom startWords choiceReply stuck canGo inTime unfinished accepted withAgent withSent after receive best lookAgents lookRows look visible beats goodTable goodAgent goodRows rowReplyAt climbs climbsTo rowReply goesOnTo notAbove wellFormed fieldsFit namesOf within rowOf zeroFrom allZero allBelow readInto framesInto framesReply framesOf frameOf fourWords judge judgeKind onlyDigits beginsWith faultReply digitsLine allHex field number hexDigit lines inPlace rowsGood rowsClimb firstTold agentsClimb tableClimbs rowsNext loaded tableOf onesIn trailingZeros
+unfolding first every same text agentsFrom runInto runRefusal runFrom startWords choiceReply inTime unfinished accepted withAgent withSent after receive best lookAgents lookRows look visible beats goodTable goodAgent goodRows rowReplyAt climbs climbsTo rowReply goesOnTo notAbove wellFormed fieldsFit namesOf within rowOf zeroFrom allZero allBelow readInto framesInto framesReply framesOf frameOf fourWords judge judgeKind onlyDigits beginsWith faultReply digitsLine allHex field number hexDigit lines inPlace rowsGood rowsClimb firstTold agentsClimb tableClimbs rowsNext loaded tableOf onesIn trailingZeros
 holds (runs ls cs r n ss) =
     let q = runInto (readInto (text ls) (replicate tableWords 0) .table) (replicate stateWords 0) cs in
     eqb (q .reply) r && eqb (q .count) n && same (agentsFrom (q .state) 0 (length ss / 5)) ss

@@ -17,7 +17,7 @@ use Rattle.choices.specs.State.{startWords}
 use Rattle.choices.specs.Messages.{best, lookAgents, lookRows, look, visible, beats}
 use Rattle.choices.specs.Effect.{after, receive}
 use Rattle.choices.specs.Fit.{inTime, unfinished}
-use Rattle.choices.specs.Step.{choiceReply, stuck, canGo, accepted, withAgent, withSent}
+use Rattle.choices.specs.Step.{choiceReply, accepted, withAgent, withSent}
 use Rattle.traces.specs.Input.{tableBytes, tableText, choiceLines, knownInChoices, badChoice, badChoiceOf, choicesIn}
 use Rattle.digits.specs.Cases.{exampleText}
 use Rattle.digits.specs.Hex.{hexChar, hexDigits, hexWords, hexLine}
@@ -31,7 +31,7 @@ sends = hexLine 36 0x010020000000000000070000000100000003
 
 -- the trace of this input is this output
 gives : (input output : List ℕ) → Bool
-unfolding first every same startWords choiceReply stuck canGo inTime unfinished accepted withAgent withSent after receive best lookAgents lookRows look visible beats rowReply goesOnTo notAbove wellFormed fieldsFit namesOf within rowOf zeroFrom allZero allBelow readInto framesInto framesReply framesOf frameOf fourWords judge judgeKind onlyDigits beginsWith faultReply digitsLine allHex field number hexDigit lines inPlace rowsGood rowsClimb climbs climbsTo firstTold agentsClimb tableClimbs rowsNext loaded tableOf onesIn trailingZeros tableBytes tableText choiceLines badChoice badChoiceOf choicesIn hexChar hexDigits hexWords stepLine lastLine traceFrom traceChoices refusedOr traceOf
+unfolding first every same startWords choiceReply inTime unfinished accepted withAgent withSent after receive best lookAgents lookRows look visible beats rowReply goesOnTo notAbove wellFormed fieldsFit namesOf within rowOf zeroFrom allZero allBelow readInto framesInto framesReply framesOf frameOf fourWords judge judgeKind onlyDigits beginsWith faultReply digitsLine allHex field number hexDigit lines inPlace rowsGood rowsClimb climbs climbsTo firstTold agentsClimb tableClimbs rowsNext loaded tableOf onesIn trailingZeros tableBytes tableText choiceLines badChoice badChoiceOf choicesIn hexChar hexDigits hexWords stepLine lastLine traceFrom traceChoices refusedOr traceOf
 gives input output = same (traceOf input .bytes) output
 
 cases : T (every (
