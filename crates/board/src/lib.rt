@@ -1,5 +1,6 @@
 // The exported functions, for the switch's C code: each is one line over a proved call, with that call's statement.
 // A slice passes as pointer and length.
+use executive::Picked;
 use executive::Ran;
 use reading::Told;
 use traces::TraceReply;
@@ -43,6 +44,13 @@ pub extern "C" fn tannoplex_step(table: &[u32], state: &mut [u32], agent: u32, t
     ensures { λ r. ⌜ Executive.Stepped (now (table .entry)) (now (state .entry)) agent time r (now (state .exit)) ⌝ }
 {
     executive::calls::step(table, state, agent, time)
+}
+
+#[no_mangle]
+pub extern "C" fn tannoplex_pick(table: &[u32], state: &[u32]) -> Picked
+    ensures { λ r. ⌜ Executive.Picked (now (table .entry)) (now (state .entry)) (r .reply) (r .agent) (r .time) ⌝ }
+{
+    executive::calls::pick(table, state)
 }
 
 #[no_mangle]

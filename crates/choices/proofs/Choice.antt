@@ -3,14 +3,13 @@ use mathlib.Core.Path.{_≡_, refl, sym, _∙_}
 use mathlib.Core.Logic.{_≢_}
 use mathlib.Core.Bool.{Bool, true, false, not, _&&_, _||_, false≢true}
 use mathlib.Core.List.{List, [], _∷_}
-use Prim.Native.Nat.{ℕ, max, _<_, _≤_}
-use native.Mathlib.Omega.{arith}
+use Prim.Native.Nat.{ℕ, _<_, _≤_}
 use lib.Dec.{ltb, leb, eqb}
 use borrow.Author.Tests.{ltb-true, ltb-false, leb-true, leb-false, lt-ltb, le-ltb, le-leb, lt-leb, eqb-false, eq-eqb, not-false, not-true}
 use Rattle.tables.specs.Basics.{first, _⇒_, Rule}
 use Rattle.tables.specs.Layout.{agents, rows}
 use Rattle.tables.proofs.Tests.{and-both}
-use Rattle.tables.proofs.Passed.{and-1, and-2, below, all-below, not-all-below, passed}
+use Rattle.tables.proofs.Passed.{and-1, and-2, below, all-below, passed}
 use Rattle.choices.specs.State.{clock, pos}
 use Rattle.choices.specs.Fit.{unfinished, current, inTime}
 use Rattle.choices.specs.Step.{choiceReply, InTime, Allowed}

@@ -16,10 +16,10 @@ use Rattle.tables.specs.Table.{goodTable}
 use Rattle.tables.specs.declared.Row.{Row}
 use Rattle.tables.proofs.Good.{few, few-rows, formed}
 use Rattle.choices.specs.declared.Agent.{Agent}
-use Rattle.choices.specs.State.{Pool, clock, pos, mark, value, pool, agentAt, posPlace, regPlace, markPlace, valuePlace}
+use Rattle.choices.specs.State.{Pool, pos, mark, value, pool, agentAt, posPlace, regPlace, markPlace, valuePlace}
 use Rattle.choices.specs.Messages.{best}
 use Rattle.choices.specs.Effect.{after}
-use Rattle.choices.specs.Fit.{unfinished, current, inTime}
+use Rattle.choices.specs.Fit.{unfinished, inTime}
 use Rattle.choices.specs.Step.{choiceReply, accepted, withAgent, withSent}
 use Rattle.choices.specs.Registers.{around, listed, register, withRegs, acted, actInto}
 use Rattle.choices.proofs.Lists.{getD-part}

@@ -3,13 +3,11 @@ use mathlib.Core.Path.{_≡_, refl, sym, ap, _∙_}
 use mathlib.Core.Logic.{_≢_, _⊎_, inl, inr}
 use mathlib.Core.Bool.{Bool, true, false, not, _&&_}
 use mathlib.Core.List.{List}
-use Prim.Native.Nat.{ℕ, _+_, _≤_, _<_, _^_}
+use Prim.Native.Nat.{ℕ, _+_, _≤_, _<_}
 use native.Mathlib.Decide.{decLt, ℕ-discrete}
 use native.Mathlib.Omega.{arith}
-use lib.Dec.{leb}
 use lib.ListN.{getD}
-use borrow.Author.Tests.{ltb-true, lt-ltb, le-ltb, lt-leb, le-leb, leb-true}
-use Rattle.tables.specs.Basics.{allBelow, firstBelow}
+use borrow.Author.Tests.{ltb-true, lt-ltb, le-ltb}
 use Rattle.tables.specs.Layout.{agents, rows, row}
 use Rattle.tables.specs.Table.{goodTable}
 use Rattle.tables.specs.declared.Row.{Row}
@@ -19,18 +17,18 @@ use Rattle.tables.proofs.FirstBelow.{first-below-is}
 use Rattle.tables.proofs.Good.{few, table-facts, no-count, late-bound}
 use Rattle.choices.specs.State.{clock, pos}
 use Rattle.choices.specs.Fit.{unfinished, current, inTime}
-use Rattle.choices.specs.Step.{InTime, Allowed}
+use Rattle.choices.specs.Step.{Allowed}
 use Rattle.choices.specs.Pick.{soonest, canGo, allEnded, hasLeastLate, pickedAgent}
 use Rattle.choices.specs.Lates.{noLate, Lates, Picks}
 use Rattle.choices.proofs.Choice.{in-time, time-in}
 use Rattle.choices.proofs.Lates.{late-ended, late-row}
 
 module _ (tb st : List ℕ) (a : ℕ) where
-  live : unfinished tb st a ≡ true → pos st a < rows tb a
+  pub live : unfinished tb st a ≡ true → pos st a < rows tb a
   unfolding unfinished
   live h = ltb-true (pos st a) (rows tb a) h
 
-  alive : pos st a < rows tb a → unfinished tb st a ≡ true
+  pub alive : pos st a < rows tb a → unfinished tb st a ≡ true
   unfolding unfinished
   alive h = lt-ltb (pos st a) (rows tb a) h
 

@@ -40,7 +40,6 @@ module _ {T : Types} where
           let (live, r) = past (omega arith) r in
           let (after, r) = past (omega arith) r in
           let (begun, r) = past (omega arith) r in
-          let (_, r) = past (omega arith) r in
           let (due, _) = past (omega arith) r in
           allowed (omega arith) (unended _ live) (record { after = omega arith; begun = omega arith; fits = λ b l n. by-cases (decLt (instrOf T b (g .st b) .late) t) (λ over. absurd (due (b, l, n, omega arith))) (λ over. omega arith) })
 
@@ -56,10 +55,7 @@ module _ {T : Types} where
                 λ l. omega (arith, good .after),
                 inr (
                   λ l. omega (arith, good .begun),
-                  inr (
-                    λ stuck. stuck a t r,
-                    inr (λ (b, l, live, over). omega (arith, good .fits b l live), refl),
-                  ),
+                  inr (λ (b, l, live, over). omega (arith, good .fits b l live), refl),
                 ),
               ),
             ),

@@ -62,11 +62,11 @@ module _ (tb st : List ℕ) (a t : ℕ) where
     here : Choice rules words a t
     here = choice-is-models rules words (ready-table tb st r) (ready-state tb st r) a t
 
-    reply-is : stepInto tb st a t .reply ≡ choiceReply rules words a t
+    pub reply-is : stepInto tb st a t .reply ≡ choiceReply rules words a t
     reply-is = replied ∙ ready-reply tb st a t r
 
   module _ (e : stepInto tb st a t .reply ≡ 0) where
-    was : Ready tb st × (choiceReply rules words a t ≡ 0)
+    pub was : Ready tb st × (choiceReply rules words a t ≡ 0)
     was = was-ready tb st a t (sym replied ∙ e)
 
     long : length new ≡ stateWords
@@ -75,7 +75,7 @@ module _ (tb st : List ℕ) (a t : ℕ) where
     left : stepInto tb st a t .state ≡ new ++ pastState st
     left = ap (λ (o : Outcome). o .state) (answered (sym replied ∙ e))
 
-    left-words : statePart (stepInto tb st a t .state) ≡ new
+    pub left-words : statePart (stepInto tb st a t .state) ≡ new
     left-words = ap statePart left ∙ part-is new (pastState st) long
 
     left-past : pastState (stepInto tb st a t .state) ≡ pastState st

@@ -69,10 +69,10 @@ module _ (tb st : List ℕ) (table : Table (tablePart tb)) (long : stateWords �
 
 -- the table's counts, read in the lent words
 module _ (tb : List ℕ) where
-  agents-part : agents (tablePart tb) ≡ agents tb
+  pub agents-part : agents (tablePart tb) ≡ agents tb
   agents-part = getD-take tableWords tb 0 0 (omega arith)
 
-  rows-part : (b : ℕ) → b < 16 → rows (tablePart tb) b ≡ rows tb b
+  pub rows-part : (b : ℕ) → b < 16 → rows (tablePart tb) b ≡ rows tb b
   rows-part b h = getD-take tableWords tb (1 + b) 0 (omega arith)
 
 -- a run that has ended every agent in the lent words has done so from the start state

@@ -11,6 +11,7 @@ pub mod Behaves
 pub mod Call
 pub mod Demand3
 pub mod Lent
+pub mod Ends
 pub mod Parsed
 pub mod Small
 pub mod TableText

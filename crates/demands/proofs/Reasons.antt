@@ -14,15 +14,14 @@ use Rattle.tables.proofs.Tests.{and-both}
 use Rattle.choices.specs.State.{clock, pos}
 use Rattle.choices.specs.Fit.{current, inTime, unfinished}
 use Rattle.choices.specs.Step.{choiceReply}
-use Rattle.executive.proofs.Stuck.{stuck-exactly}
 use Rattle.choices.proofs.Choice.{in-time}
 use Rattle.demands.specs.Reasons.{Overdue, Reason, Reply, First, reasons}
 use Rattle.demands.specs.Instance.{decode}
 use Rattle.demands.proofs.Decode.{state-low}
-use Rattle.demands.proofs.Step.{low, accepts-allowed, allowed-accepts}
+use Rattle.demands.proofs.Step.{low}
 
 -- a test that does not hold of each number below n fails at one of them
-some-fails : (n : ℕ) (f : ℕ → Bool) → allBelow n f ≡ false → (b : ℕ) × (b < n) × (f b ≡ false)
+pub some-fails : (n : ℕ) (f : ℕ → Bool) → allBelow n f ≡ false → (b : ℕ) × (b < n) × (f b ≡ false)
 unfolding allBelow
 some-fails zero f e = absurd (true≢false e)
 some-fails (suc n) f e = go (allBelow n f) (f n) (some-fails n f) refl refl
@@ -78,6 +77,4 @@ module _ (tb st : List ℕ) (good : goodTable tb ≡ true) (a t : ℕ) where
       test (λ e. rw in-words e) (λ e p. true≢false (sym p ∙ rw in-words e)) (λ _.
       test (ltb-true _ _) (λ e p. let n = ltb-false t (clock st) e in omega arith) (λ _.
       test (λ e. rw in-words (ltb-true _ _ e)) (λ e p. let n = ltb-false t (current tb st a .early) e in let m : t < current tb st a .early = rw in-words at p in omega arith) (λ _.
-      test (λ e b u c. stuck-exactly tb st .0 e b u (allowed-accepts tb st good b u c))
-      (λ e nobody. true≢false (sym (stuck-exactly tb st .1 (λ b u c. nobody b u (accepts-allowed tb st good b u c))) ∙ e)) (λ _.
-      test (λ e. overdue tb st good t (not-true (inTime tb st t) e)) (λ e. not-overdue tb st good t (not-false (inTime tb st t) e)) (λ _. none-left)))))))
+      test (λ e. overdue tb st good t (not-true (inTime tb st t) e)) (λ e. not-overdue tb st good t (not-false (inTime tb st t) e)) (λ _. none-left))))))

@@ -6,6 +6,7 @@ pub mod Assumed
 pub mod Steps
 pub mod Runs
 pub mod Demand3
+pub mod Ends
 pub mod Traces
 pub mod ProvedCases
 pub mod Cases

@@ -35,23 +35,22 @@ module _ {T : Types} where
   abbrev pub Overdue : SystemState T → ℕ → Type 0
   Overdue g t = (b : ℕ) × (b < agents) × (ended b (g .st b) ≡ false) × (instrOf T b (g .st b) .late < t)
 
-  -- 01's replies 10 to 15, in 01's order.
+  -- 01's replies 10 to 15, in 01's order; 14 is reserved, since T-04 showed that its reason cannot be met (specs/Ends).
   abbrev pub reasons : SystemState T → (a t : ℕ) → List Reason
   reasons g a t =
       ((agents ≤ a) ⇒ 10)  -- no such agent
       ∷ ((ended a (g .st a) ≡ true) ⇒ 11)  -- the agent has ended
       ∷ ((t < g .t) ⇒ 12)  -- time below the clock
       ∷ ((t < instrOf T a (g .st a) .early) ⇒ 13)  -- time below the row's early
-      ∷ (((b u : ℕ) → ModelAllows g b u → ⊥) ⇒ 14)  -- stuck: no agent and time at all would be accepted, though a is unfinished
       ∷ (Overdue g t ⇒ 15)  -- time above some unfinished agent's late
       ∷ []
 
   abbrev pub Reply : SystemState T → (a t : ℕ) → ℕ → Type 0
   Reply g a t n = First (reasons g a t) n
 
-  -- A choice has no two replies.
-  pub one-reply : {g : SystemState T} {a t m n : ℕ} → Reply g a t m → Reply g a t n → m ≡ n
-  one-reply {g} {a} {t} p q = first-once (reasons g a t) p q
+-- A choice has no two replies.
+pub one-reply : (T : Types) (g : SystemState T) (a t : ℕ) {m n : ℕ} → Reply g a t m → Reply g a t n → m ≡ n
+one-reply T g a t p q = first-once (reasons g a t) p q
 
 -- Reply 0: there is no reason against a choice if and only if the model allows it. proofs/Allowed proves it.
 abbrev pub ZeroIsAllowed : Type 1

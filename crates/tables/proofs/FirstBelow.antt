@@ -1,6 +1,6 @@
 -- The first number below n of which a test holds. Assumes nothing.
-use mathlib.Core.Path.{_≡_, refl, ap, _∙_}
-use mathlib.Core.Bool.{Bool, true, false}
+use mathlib.Core.Path.{_≡_, refl, sym, ap, _∙_}
+use mathlib.Core.Bool.{Bool, true, false, false≢true}
 use Prim.Native.Nat.{ℕ, zero, suc, suc-le-suc, _<_}
 use native.Mathlib.Nat.{not-suc-le-zero, le-of-suc-le-suc}
 use native.Mathlib.Omega.{arith}
@@ -24,3 +24,15 @@ unfolding firstBelow
 first-below-none zero f none = refl
 first-below-none (suc n) f none =
     found n f false (none 0 (omega arith)) ∙ ap suc (first-below-none n (λ i. f (suc i)) (λ i k. none (suc i) (suc-le-suc k)))
+
+-- where the test holds of some number below n, it holds of the first
+pub first-below-found : (n : ℕ) (f : ℕ → Bool) (i : ℕ) → i < n → f i ≡ true → (firstBelow n f < n) × (f (firstBelow n f) ≡ true)
+first-below-found zero f i h t = absurd (not-suc-le-zero h)
+first-below-found (suc n) f i h t = go (f 0) refl i h t (first-below-found n (λ j. f (suc j)))
+  where
+    go : (b : Bool) → f 0 ≡ b → (j : ℕ) → j < suc n → f j ≡ true
+        → ((k : ℕ) → k < n → f (suc k) ≡ true → (firstBelow n (λ j. f (suc j)) < n) × (f (suc (firstBelow n (λ j. f (suc j)))) ≡ true))
+        → (firstBelow (suc n) f < suc n) × (f (firstBelow (suc n) f) ≡ true)
+    go true e j l y next = let p = found n f true e in (rw p (omega arith), rw p e)
+    go false e zero l y next = absurd (false≢true (sym e ∙ y))
+    go false e (suc j) l y next = let p = found n f false e in let (low, holds) = next j (le-of-suc-le-suc l) y in (rw p (suc-le-suc low), rw p holds)

@@ -1,5 +1,5 @@
 -- `choice_reply` meets its contract: the tests of `choiceReply` in their order. Assumes nothing.
-use mathlib.Core.Path.{sym, _∙_}
+use mathlib.Core.Path.{sym}
 use native.Mathlib.Omega.{arith}
 use Rattle.tables.proofs.Tests.{refused, granted}
 use Rattle.tables.proofs.Good.{few, few-rows}

@@ -1,0 +1,313 @@
+-- What a caller's loop can rely on, proved: a state that fits is a ready system of the model, so that the model's progress and completion are its own.
+use mathlib.Core.Path.{_≡_, refl, sym, ap, subst, _∙_}
+use mathlib.Core.Bool.{Bool, true, false, not, cond, true≢false}
+use mathlib.Core.List.{List, [], _∷_}
+use mathlib.Core.Logic.{_≢_, ⊎-elim, inl, inr}
+use Prim.Native.Nat.{ℕ, zero, suc, zero-le, max, _-_, _≤_, _<_}
+use native.Mathlib.Omega.{arith}
+use lib.Dec.{leb}
+use lib.ListN.{length, length-take}
+use lib.Seq.{getD-take}
+use borrow.Author.Tests.{leb-true, leb-false, le-leb, lt-leb, lt-ltb, le-ltb, ltb-true, ltb-false, not-false, not-true}
+use Rattle.pharos.specs.Model.{Model, System, Good, step, start, _▸_}
+use Rattle.pharos.specs.Runs.{total, Ready, work, Windows, Nearer}
+use Rattle.pharos.proofs.Instance.{model, system, picked, executes-is-step}
+use Rattle.pharos.proofs.Progress.{least, least-may, progress}
+use Rattle.pharos.proofs.Completion.{total-le, bounded, stops-ended}
+use Rattle.tables.specs.Basics.{first}
+use Rattle.tables.specs.Layout.{agents, rows, row, tableWords}
+use Rattle.tables.proofs.Good.{few}
+use Rattle.tables.proofs.Onward.{rises}
+use Rattle.tables.proofs.Passed.{and-1, and-2, passed, all-below, not-all-below}
+use Rattle.tables.proofs.Tests.{and-both}
+use Rattle.tables.proofs.FirstBelow.{first-below-found}
+use Rattle.choices.specs.declared.Agent.{Agent}
+use Rattle.choices.specs.State.{clock, pos, posPlace, stateWords}
+use Rattle.choices.specs.Fit.{unfinished, current, inTime}
+use Rattle.choices.specs.Step.{choiceReply, accepted}
+use Rattle.choices.specs.Pick.{soonest, allEnded, hasLeastLate, pickedAgent}
+use Rattle.choices.proofs.Choice.{allowed as permitted, in-time, time-in}
+use Rattle.choices.proofs.Pick.{alive, live as unended-is}
+use Rattle.executive.specs.Calls.{tablePart, statePart, stepInto, PickOutcome, pickReply, pickFrom}
+use Rattle.executive.specs.Laws.{Begins}
+use Rattle.executive.proofs.Fitting.{Fits, fits-says}
+use Rattle.executive.proofs.PickedBy.{picked-by}
+use Rattle.demands.specs.Instance.{published, decode}
+use Rattle.demands.specs.Demand2.{Table, Fitting}
+use Rattle.demands.specs.Demand3.{AllAtTheirEnd}
+use Rattle.demands.specs.Ends.{Usable, SomeUnfinished, StepAccepts, SomeAccepted, PickIsAccepted, PickWhileUnfinished, PickAtTheEnd, rowsOf, rowsLeft, NoLongerList, loop, TakesAccepted, EveryLoopEnds, byPick, PickingEnds}
+use Rattle.demands.proofs.Allowed.{allowed}
+use Rattle.demands.proofs.Rows.{goes-on}
+use Rattle.demands.proofs.Decode.{state-low}
+use Rattle.demands.proofs.Reasons.{some-fails}
+use Rattle.demands.proofs.Demand2.{choice-is-models}
+use Rattle.demands.proofs.Assumed.{assumptions-hold}
+use Rattle.demands.proofs.Call.{ready, ready-table, ready-state, reply-is, was, left-words}
+use Rattle.demands.proofs.Lent.{agents-part, rows-part}
+
+total-same : (f g : ℕ → ℕ) (n : ℕ) → ((b : ℕ) → b < n → f b ≡ g b) → total f n ≡ total g n
+unfolding total
+total-same f g zero h = refl
+total-same f g (suc n) h = let e = h n (omega arith) in let r = total-same f g n (λ b l. h b (omega arith)) in omega arith
+
+-- ---- words of their full length: a system of the model
+
+module _ (tb : List ℕ) (table : Table tb) where
+  abbrev M : Model
+  M = model (published tb) (assumptions-hold tb table)
+
+  abbrev here : List ℕ → System M
+  here st = system (published tb) (assumptions-hold tb table) (decode tb st)
+
+  windows : Windows M
+  windows a s real live = let w = assumptions-hold tb table .instrOf-type a s real live in omega arith
+
+  -- what an agent has still before it: each step leaves it less
+  abbrev before-it : ℕ → Agent → ℕ
+  before-it b s = rows tb b - s .pos
+
+  nearer : Nearer M before-it
+  nearer a s real live p =
+      let (up, _) = rises (row tb a (s .pos)) _ _ (goes-on tb a s p (row tb a (s .pos)) (picked (published tb) a s p)) in
+      let unended : s .pos < rows tb a = leb-false _ _ live in
+      omega arith
+
+  low : {b : ℕ} → b < agents tb → b < 16
+  low h = omega (arith, few tb (table .good))
+
+  module _ (st : List ℕ) (state : Fitting tb st) where
+    fit : Fits tb st
+    fit = fits-says tb st (state .fit)
+
+    ready-here : Ready (here st)
+    ready-here b real live =
+        let in-words = state-low tb st b (low real) in
+        rw in-words (fit .late b real (leb-false _ _ (rw in-words at live)))
+
+    live : (b : ℕ) → b < agents tb → pos st b < rows tb b → leb (rows tb b) (decode tb st .st b .pos) ≡ false
+    live b h l = rw (state-low tb st b (low h)) (lt-leb (rows tb b) (pos st b) l)
+
+    good-accepted : (a t : ℕ) → Good (here st) a t → choiceReply tb st a t ≡ 0
+    good-accepted a t g =
+        choice-is-models tb st table state a t .exact .1 (allowed (g .real) (g .live) (record { after = g .after; begun = g .begun; fits = g .fits }))
+
+    some-choice : (b : ℕ) → b < agents tb → pos st b < rows tb b → (a t : ℕ) × (choiceReply tb st a t ≡ 0)
+    some-choice b h l =
+        let (a, t, g) = progress (here st) ready-here windows b h (live b h l) in
+        (a, t, good-accepted a t g)
+
+    -- where no choice is accepted, all have ended
+    stopped : ((a t : ℕ) → choiceReply tb st a t ≡ 0 → ⊥) → AllAtTheirEnd tb st
+    stopped none b h =
+        let end = stops-ended {g = here st} windows start ready-here (λ a t g. none a t (good-accepted a t g)) b h in
+        let over : rows tb b ≤ pos st b = leb-true _ _ (rw (state-low tb st b (low h)) at end) in
+        omega (arith, fit .position b h)
+
+    work-is : work before-it (here st) ≡ rowsLeft tb st
+    work-is = total-same _ _ (agents tb) (λ b h. ap (λ (s : Agent). rows tb b - s .pos) (state-low tb st b (low h)))
+
+  -- an accepted choice leaves less to do
+  nears : (st : List ℕ) → Fitting tb st → (a t : ℕ) → choiceReply tb st a t ≡ 0 → rowsLeft tb (accepted tb st a t) < rowsLeft tb st
+  nears st state a t c =
+      let choice = choice-is-models tb st table state a t in
+      let (may, lands) = executes-is-step (published tb) (assumptions-hold tb table) (choice .step c) in
+      let less = bounded before-it nearer (start ▸ may) in
+      let after = ap (work before-it) lands in
+      omega (arith, less, after, work-is st state, work-is (accepted tb st a t) (choice .state c))
+
+  -- ---- the agent that is picked
+
+  module _ (st : List ℕ) (state : Fitting tb st) where
+    some-least : allEnded tb st ≡ false → (a : ℕ) × (a < agents tb) × (hasLeastLate tb st a ≡ true)
+    unfolding allEnded hasLeastLate
+    some-least e =
+        let (b, h, fails) = some-fails (agents tb) _ e in
+        ⊎-elim
+        (λ none. absurd (true≢false (sym (none b h) ∙ fails)))
+        (λ (a, real, alive, lowest). (
+          a,
+          real,
+          and-both (unfinished tb st a) (inTime tb st (current tb st a .late)) (not-false _ alive)
+              (time-in tb st (current tb st a .late) (λ c l k. lowest c l (unended c k))),
+        ))
+        (least (λ b. not (unfinished tb st b)) (λ b. current tb st b .late) (agents tb))
+      where
+        unended : (c : ℕ) → pos st c < rows tb c → not (unfinished tb st c) ≡ false
+        unended c k = rw (alive tb st c k)
+
+    -- an unfinished agent of the least late may be run at the soonest
+    least-accepted : (a : ℕ) → a < agents tb → hasLeastLate tb st a ≡ true → choiceReply tb st a (soonest tb st a) ≡ 0
+    unfolding hasLeastLate
+    least-accepted a h l =
+        let unended = unended-is tb st a (and-1 (unfinished tb st a) (inTime tb st (current tb st a .late)) l) in
+        let due = in-time tb st (current tb st a .late) (and-2 (unfinished tb st a) (inTime tb st (current tb st a .late)) l) in
+        let own = state-low tb st a (low h) in
+        let may = least-may (here st) (ready-here st state) windows a h (live st state a h unended) (λ b k living.
+        let other = state-low tb st b (low k) in rw (own, other) (due b k (leb-false _ _ (rw other at living)))) in
+        good-accepted st state a (soonest tb st a) (subst (Good (here st) a) (ap (λ (s : Agent). max (clock st) (row tb a (s .pos) .early)) own) may)
+
+    pick-accepted : allEnded tb st ≡ false → choiceReply tb st (pickedAgent tb st) (soonest tb st (pickedAgent tb st)) ≡ 0
+    unfolding pickedAgent
+    pick-accepted e =
+        let (a, real, l) = some-least e in
+        let (h, k) = first-below-found (agents tb) (hasLeastLate tb st) a real l in
+        least-accepted (pickedAgent tb st) h k
+
+-- ---- the lent words
+
+module _ (tb st : List ℕ) (usable : Usable tb st) where
+  abbrev rules : List ℕ
+  rules = tablePart tb
+
+  abbrev words : List ℕ
+  words = statePart st
+
+  low-lent : (b : ℕ) → b < agents tb → b < 16
+  low-lent b h = omega (arith, few rules (usable .0 .good), agents-part tb)
+
+  position-part : (b : ℕ) → b < agents tb → pos words b ≡ pos st b
+  position-part b h = getD-take stateWords st (posPlace b) 0 (let l = low-lent b h in omega arith)
+
+  -- an agent that is unfinished in the lent words is so in the state's own
+  unfinished-part : SomeUnfinished tb st → SomeUnfinished rules words
+  unfinished-part (b, h, l) = (b, omega (arith, agents-part tb), omega (arith, position-part b h, rows-part tb b (low-lent b h)))
+
+  ended-part : AllAtTheirEnd rules words → AllAtTheirEnd tb st
+  ended-part end b h = sym (position-part b h) ∙ end b (omega (arith, agents-part tb)) ∙ rows-part tb b (low-lent b h)
+
+  left-part : rowsLeft rules words ≡ rowsLeft tb st
+  left-part =
+      ap (total (λ b. rows rules b - pos words b)) (agents-part tb)
+      ∙ total-same _ _ (agents tb) (λ b h. let p = position-part b h in let r = rows-part tb b (low-lent b h) in omega arith)
+
+  -- `step` replies to a choice what the state's own words do
+  accepts : (a t : ℕ) → choiceReply rules words a t ≡ 0 → StepAccepts tb st a t
+  accepts a t c = reply-is tb st a t (ready tb st (usable .0) (usable .1)) ∙ c
+
+-- words that an accepted step was taken of
+was-usable : (tb st : List ℕ) (a t : ℕ) → StepAccepts tb st a t → Usable tb st × (choiceReply (tablePart tb) (statePart st) a t ≡ 0)
+was-usable tb st a t e = let (r, c) = was tb st a t e in ((ready-table tb st r, ready-state tb st r), c)
+
+-- and those that it leaves
+still-usable : (tb st : List ℕ) (a t : ℕ) → StepAccepts tb st a t → Usable tb (stepInto tb st a t .state)
+still-usable tb st a t e =
+    let ((table, state), c) = was-usable tb st a t e in
+    (table, subst (Fitting (tablePart tb)) (sym (left-words tb st a t e)) (choice-is-models (tablePart tb) (statePart st) table state a t .state c))
+
+step-nears : (tb st : List ℕ) (a t : ℕ) → StepAccepts tb st a t → rowsLeft tb (stepInto tb st a t .state) < rowsLeft tb st
+step-nears tb st a t e =
+    let (usable, c) = was-usable tb st a t e in
+    let less = nears (tablePart tb) (usable .0) (statePart st) (usable .1) a t c in
+    let new = left-part tb (stepInto tb st a t .state) (still-usable tb st a t e) in
+    let same = ap (rowsLeft (tablePart tb)) (left-words tb st a t e) in
+    omega (arith, less, new, same, left-part tb st usable)
+
+pub some-accepted : SomeAccepted
+some-accepted tb st usable some =
+    let (b, h, l) = unfinished-part tb st usable some in
+    let (a, t, c) = some-choice (tablePart tb) (usable .0) (statePart st) (usable .1) b h l in
+    (a, t, accepts tb st usable a t c)
+
+-- ---- pick
+
+module _ (tb st : List ℕ) where
+  replied : (r : ℕ) → pickReply tb st ≡ r → pickFrom tb st .reply ≡ r
+  replied zero e = ap (λ (o : PickOutcome). o .reply) (picked-by tb st 0 e)
+  replied (suc r) e = ap (λ (o : PickOutcome). o .reply) (picked-by tb st (suc r) e)
+
+  -- the tests that it passes
+  passes : pickReply tb st ≡ 0 → Usable tb st × (allEnded (tablePart tb) (statePart st) ≡ false)
+  unfolding pickReply
+  passes e =
+      let clear = passed _ tt e in
+      let l : tableWords ≤ length tb = ltb-false _ _ (clear 0) in
+      let m : stateWords ≤ length st = ltb-false _ _ (clear 1) in
+      ((record { long = simp length-take (omega arith); good = not-false _ (clear 2) }, record { long = simp length-take (omega arith); fit = not-false _ (clear 3) }), clear 4)
+
+  module _ (usable : Usable tb st) where
+    by-end : (b : Bool) → allEnded (tablePart tb) (statePart st) ≡ b → pickReply tb st ≡ cond b 11 0
+    unfolding pickReply first
+    by-end b e =
+        let r = ready tb st (usable .0) (usable .1) in
+        rw (le-ltb (length tb) tableWords (r .table), le-ltb (length st) stateWords (r .state), r .good, r .fit, e)
+
+pub pick-is-accepted : PickIsAccepted
+pick-is-accepted tb st e = go (pickReply tb st) refl
+  where
+    go : (r : ℕ) → pickReply tb st ≡ r → StepAccepts tb st (pickFrom tb st .agent) (pickFrom tb st .time)
+    go zero z =
+        let (usable, some) = passes tb st z in
+        subst (λ (o : PickOutcome). StepAccepts tb st (o .agent) (o .time)) (sym (picked-by tb st 0 z))
+        (accepts tb st usable _ _ (pick-accepted (tablePart tb) (usable .0) (statePart st) (usable .1) some))
+    go (suc r) z = absurd (omega (arith, e, replied tb st (suc r) z))
+
+pub pick-while-unfinished : PickWhileUnfinished
+unfolding allEnded
+pick-while-unfinished tb st usable some =
+    let (b, h, l) = unfinished-part tb st usable some in
+    replied tb st 0 (by-end tb st usable false (not-all-below (agents (tablePart tb)) _ b h (rw (alive (tablePart tb) (statePart st) b l))))
+
+pub pick-at-the-end : PickAtTheEnd
+unfolding allEnded unfinished
+pick-at-the-end tb st usable end = replied tb st 11 (by-end tb st usable true (all-below (agents (tablePart tb)) _ ended))
+  where
+    ended : (b : ℕ) → b < agents (tablePart tb) → not (unfinished (tablePart tb) (statePart st) b) ≡ true
+    ended b h =
+        let k : b < agents tb = omega (arith, agents-part tb) in
+        rw (le-ltb (pos (statePart st) b) (rows (tablePart tb) b) (omega (arith, end b k, position-part tb st usable b k, rows-part tb b (low-lent tb st usable b k))))
+
+-- ---- lists and loops
+
+fewer : (tb st : List ℕ) → rowsLeft tb st ≤ rowsOf tb
+fewer tb st = total-le (λ b. rows tb b - pos st b) (rows tb) (λ b. omega arith) (agents tb)
+
+pub no-longer-list : NoLongerList
+no-longer-list tb st cs k begins = (count st cs k begins, fewer tb st)
+  where
+    count : (st cs : List ℕ) (k : ℕ) → Begins tb st cs k → k ≤ rowsLeft tb st
+    count st cs zero b = zero-le
+    count st [] (suc k) b = absurd b
+    count st (a ∷ []) (suc k) b = absurd b
+    count st (a ∷ t ∷ cs) (suc k) (e, b) = omega (arith, count (stepInto tb st a t .state) cs k b, step-nears tb st a t e)
+
+module _ (choose : ℕ → List ℕ → ℕ × ℕ) (tb : List ℕ) (takes : TakesAccepted choose tb) where
+  -- a turn, by its reply
+  turn : (n : ℕ) (st : List ℕ) (r : ℕ) → stepInto tb st (choose n st .0) (choose n st .1) .reply ≡ r
+      → loop choose tb (suc n) st ≡ elim r as (λ _. List ℕ) [ zero ↦ loop choose tb n (stepInto tb st (choose n st .0) (choose n st .1) .state) | suc r ↦ st ]
+  unfolding loop
+  turn n st r e = ap (λ (x : ℕ). elim x as (λ _. List ℕ) [ zero ↦ loop choose tb n (stepInto tb st (choose n st .0) (choose n st .1) .state) | suc r ↦ st ]) e
+
+  none-accepted : (st : List ℕ) → Usable tb st → ((a t : ℕ) → StepAccepts tb st a t → ⊥) → AllAtTheirEnd tb st
+  none-accepted st usable none =
+      ended-part tb st usable (stopped (tablePart tb) (usable .0) (statePart st) (usable .1) (λ a t c. none a t (accepts tb st usable a t c)))
+
+  ends : (n : ℕ) (st : List ℕ) → Usable tb st → rowsLeft tb st ≤ n → AllAtTheirEnd tb (loop choose tb n st)
+  unfolding loop
+  ends zero st usable few = none-accepted st usable (λ a t e. omega (arith, step-nears tb st a t e))
+  ends (suc n) st usable few =
+      go (stepInto tb st a t .reply) refl (λ e. ends n (stepInto tb st a t .state) (still-usable tb st a t e) (omega (arith, step-nears tb st a t e)))
+    where
+      a : ℕ
+      a = choose n st .0
+
+      t : ℕ
+      t = choose n st .1
+
+      go : (r : ℕ) → stepInto tb st a t .reply ≡ r → (StepAccepts tb st a t → AllAtTheirEnd tb (loop choose tb n (stepInto tb st a t .state)))
+          → AllAtTheirEnd tb (loop choose tb (suc n) st)
+      go zero e rest = subst (AllAtTheirEnd tb) (sym (turn n st 0 e)) (rest e)
+      go (suc r) e rest = subst (AllAtTheirEnd tb) (sym (turn n st (suc r) e)) (none-accepted st usable (λ b u y. omega (arith, takes n st b u y, e)))
+
+pub every-loop-ends : EveryLoopEnds
+every-loop-ends choose tb st takes usable n few = ends choose tb takes n st usable few
+
+pub picking-ends : PickingEnds
+picking-ends tb st usable = every-loop-ends (byPick tb) tb st takes usable (rowsOf tb) (fewer tb st)
+  where
+    takes : TakesAccepted (byPick tb) tb
+    takes n w a t e =
+        let (ok, c) = was-usable tb w a t e in
+        let may = permitted (tablePart tb) (statePart w) a t c in
+        let h : a < agents tb = omega (arith, may .agent, agents-part tb) in
+        let l : pos w a < rows tb a = omega (arith, may .unended, position-part tb w ok a h, rows-part tb a (low-lent tb w ok a h)) in
+        pick-is-accepted tb w (pick-while-unfinished tb w ok (a, h, l))
