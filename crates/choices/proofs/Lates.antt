@@ -1,24 +1,26 @@
--- The lates of the agents' current rows, in a list of their own: a time is in time where it is above none of them, and a step changes one. Assumes nothing.
+-- The lates of the agents' current rows, in a list of their own: a time is in time where it is above none of them, the least of them is the deadline, and a step changes one.
+-- Assumes nothing.
 use mathlib.Core.Path.{_≡_, refl, sym, ap, ap₂, _∙_}
 use mathlib.Core.Logic.{_≢_}
-use mathlib.Core.Bool.{Bool, true, false, not, _&&_, _||_}
+use mathlib.Core.Bool.{Bool, true, not, _&&_, _||_, and-false}
 use mathlib.Core.List.{List}
 use Prim.Native.Nat.{ℕ, zero, suc, _+_, _≤_, _<_, _^_}
 use native.Mathlib.Decide.{decLe, decLt, ℕ-discrete}
 use native.Mathlib.Numerals.{add-one}
 use native.Mathlib.Omega.{arith}
 use lib.Dec.{leb}
-use lib.ListN.{getD, set, length-set}
+use lib.ListN.{length, getD, set, length-set}
 use lib.Seq.{getD-set-same, getD-set-other}
-use borrow.Author.Tests.{le-leb, lt-leb, le-ltb, lt-ltb}
-use Rattle.tables.proofs.Tests.{and-right, and-yes}
+use borrow.Author.Tests.{leb-true, le-leb, lt-leb, le-ltb, lt-ltb}
+use Rattle.tables.proofs.Tests.{and-yes}
+use Rattle.tables.proofs.Passed.{below, all-below}
 use Rattle.tables.specs.Basics.{allBelow}
 use Rattle.tables.specs.Layout.{agents, rows, row}
 use Rattle.tables.specs.Table.{goodTable}
 use Rattle.tables.proofs.Good.{few, few-rows, table-facts, no-count}
 use Rattle.choices.specs.State.{pos}
 use Rattle.choices.specs.Fit.{unfinished, current, inTime}
-use Rattle.choices.specs.Lates.{noLate, lateAt, Lates}
+use Rattle.choices.specs.Lates.{noLate, lateAt, Lates, aboveNone}
 
 -- ---- tests over a range
 
@@ -43,17 +45,59 @@ unfolding allBelow
 below-same zero f g h = refl
 below-same (suc n) f g h = ap₂ _&&_ (below-same n f g (λ i l. h i (omega arith))) (h n (omega arith))
 
--- ---- whether a time is above none of the lates, agent by agent
+-- ---- the deadline: the least of the lates, agent by agent
 
-abbrev pub aboveNone : (ls : List ℕ) (t n : ℕ) → Bool
-aboveNone ls t n = allBelow n (λ a. leb t (getD ls a 0))
+-- d is the deadline of the first n lates
+abbrev pub Deadline : (ls : List ℕ) (n d : ℕ) → Type 0
+Deadline ls n d = (t : ℕ) → t < 2 ^ 32 → allBelow n (λ a. leb t (getD ls a 0)) ≡ leb t d
 
-module _ (ls : List ℕ) (t n : ℕ) where
-  pub one-above : getD ls n 0 < t → false ≡ aboveNone ls t (n + 1)
-  one-above h = sym (below-suc n _ ∙ and-right (aboveNone ls t n) (leb t (getD ls n 0)) (lt-leb t (getD ls n 0) h))
+-- the lesser of two limits
+leb-less : (t d e : ℕ) → e < d → (leb t d && leb t e) ≡ leb t e
+leb-less t d e h = go (decLe t e)
+  where
+    go : Dec (t ≤ e) → (leb t d && leb t e) ≡ leb t e
+    go (yes l) = rw (le-leb t d (omega arith))
+    go (no n) = rw (lt-leb t e (omega arith)) (and-false (leb t d))
 
-  pub not-above : t ≤ getD ls n 0 → aboveNone ls t n ≡ aboveNone ls t (n + 1)
-  not-above h = sym (below-suc n _ ∙ and-yes (aboveNone ls t n) (leb t (getD ls n 0)) (le-leb t (getD ls n 0) h))
+leb-more : (t d e : ℕ) → d ≤ e → (leb t d && leb t e) ≡ leb t d
+leb-more t d e h = go (decLe t d)
+  where
+    go : Dec (t ≤ d) → (leb t d && leb t e) ≡ leb t d
+    go (yes l) = rw (le-leb t d l, le-leb t e (omega arith))
+    go (no n) = rw (lt-leb t d (omega arith))
+
+module _ (ls : List ℕ) where
+  pub deadline-none : Deadline ls 0 noLate
+  unfolding allBelow
+  deadline-none t w = sym (le-leb t noLate (omega arith))
+
+  module _ (n d : ℕ) (h : Deadline ls n d) where
+    pub deadline-new : (e : ℕ) → getD ls n 0 < d → e ≡ getD ls n 0 → Deadline ls (n + 1) e
+    deadline-new e l p t w = below-suc n _ ∙ ap (λ b. b && leb t (getD ls n 0)) (h t w) ∙ leb-less t d (getD ls n 0) l ∙ ap (leb t) (sym p)
+
+    pub deadline-kept : (e : ℕ) → d ≤ getD ls n 0 → e ≡ d → Deadline ls (n + 1) e
+    deadline-kept e l p t w = below-suc n _ ∙ ap (λ b. b && leb t (getD ls n 0)) (h t w) ∙ leb-more t d (getD ls n 0) l ∙ ap (leb t) (sym p)
+
+  -- a time not above one that is above none of the lates is above none
+  pub above-none : (d t : ℕ) → aboveNone ls d ≡ true → t ≤ d → aboveNone ls t ≡ true
+  unfolding aboveNone
+  above-none d t h l = all-below 16 _ (λ a k. le-leb t (getD ls a 0) (let m = leb-true d (getD ls a 0) (below 16 _ h a k) in omega arith))
+
+  pub zero-above-none : aboveNone ls 0 ≡ true
+  unfolding aboveNone
+  zero-above-none = all-below 16 _ (λ a k. le-leb 0 (getD ls a 0) (omega arith))
+
+  -- a late that rises keeps it so
+  pub still-above-none : (d a v : ℕ) → a < length ls → aboveNone ls d ≡ true → (a < 16 → getD ls a 0 ≤ v) → aboveNone (set ls a v) d ≡ true
+  unfolding aboveNone
+  still-above-none d a v low h up = all-below 16 _ (λ b k. go b k (ℕ-discrete b a))
+    where
+      go : (b : ℕ) → b < 16 → Dec (b ≡ a) → leb d (getD (set ls a v) b 0) ≡ true
+      go b k (yes e) =
+          let m = leb-true d (getD ls b 0) (below 16 (λ c. leb d (getD ls c 0)) h b k) in
+          let u : getD ls b 0 ≤ v = rw e (up (rw e at k)) in
+          rw (e, getD-set-same ls a v 0 low) (le-leb d v (omega arith))
+      go b k (no n) = rw (getD-set-other ls a b v 0 n) (below 16 (λ c. leb d (getD ls c 0)) h b k)
 
 -- ---- one agent's late
 
@@ -95,13 +139,14 @@ module _ (tb : List ℕ) (good : goodTable tb ≡ true) where
       go (no n) = few-rows tb good b (omega arith)
 
   -- an agent past the count has ended, so that all 16 may be looked at
-  pub in-time-lates : (st ls : List ℕ) → Lates tb st ls → (t : ℕ) → t < 2 ^ 32 → aboveNone ls t 16 ≡ inTime tb st t
-  unfolding inTime
+  pub in-time-lates : (st ls : List ℕ) → Lates tb st ls → (t : ℕ) → t < 2 ^ 32 → inTime tb st t ≡ aboveNone ls t
+  unfolding inTime aboveNone
   in-time-lates st ls l t w =
-      below-same 16 (λ a. leb t (getD ls a 0)) (λ a. not (unfinished tb st a) || leb t (current tb st a .late))
+      sym
+      (below-same 16 (λ a. leb t (getD ls a 0)) (λ a. not (unfinished tb st a) || leb t (current tb st a .late))
       (λ a h. ap (leb t) (l .each a h) ∙ limit tb st a t w)
       ∙ below-more (agents tb) 16 (λ a. not (unfinished tb st a) || leb t (current tb st a .late)) (few tb good)
-      (λ a h k. ended-free tb st a t (omega (arith, no-count tb (table-facts tb good) a h k)))
+      (λ a h k. ended-free tb st a t (omega (arith, no-count tb (table-facts tb good) a h k))))
 
 -- ---- a step of agent a changes its late and no other
 

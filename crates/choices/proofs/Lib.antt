@@ -3,9 +3,9 @@ pub mod Lists
 pub mod After
 pub mod Choice
 pub mod Effects
-pub mod Onward
-pub mod Looking
 pub mod Lates
 pub mod Pick
+pub mod Onward
+pub mod Looking
 pub mod Around
 pub mod Choosing

@@ -1,18 +1,22 @@
 -- Where a row goes on: at one of the rows that it can go on to, whatever its agent holds and whatever message it takes. Assumes nothing.
 use mathlib.Core.Path.{_≡_, refl, sym, ap, subst, _∙_}
 use mathlib.Core.Logic.{inl, inr}
+use mathlib.Core.Bool.{true}
 use mathlib.Core.List.{List, [], _∷_}
 use Prim.Native.Nat.{ℕ, _+_, _≤_, _<_}
 use native.Mathlib.Omega.{arith}
-use native.Mathlib.Decide.{ℕ-discrete}
+use native.Mathlib.Decide.{decLt, ℕ-discrete}
 use lib.Dec.{eqb}
 use lib.ListN.{length, getD, replicate, getD-replicate}
 use borrow.Author.Tests.{ne-eqb}
 use Rattle.tables.specs.Basics.{OneOf}
+use Rattle.tables.specs.Layout.{rows}
 use Rattle.tables.specs.Rows.{goesOnTo}
+use Rattle.tables.specs.Table.{goodTable}
 use Rattle.tables.specs.declared.Row.{Row}
 use Rattle.tables.proofs.Tests.{either}
 use Rattle.tables.proofs.Families.{Plain}
+use Rattle.tables.proofs.Good.{late-bound, window-on}
 use Rattle.tables.proofs.Onward.{Onward, both, far, near, onward, rises}
 use Rattle.choices.specs.declared.Agent.{Agent}
 use Rattle.choices.specs.declared.Best.{Best}
@@ -21,8 +25,10 @@ use Rattle.choices.specs.State.{pos, agentAt, pool}
 use Rattle.choices.specs.Messages.{best}
 use Rattle.choices.specs.Effect.{after, receive}
 use Rattle.choices.specs.Fit.{current}
-use Rattle.choices.specs.Step.{accepted}
+use Rattle.choices.specs.Step.{accepted, Allowed}
+use Rattle.choices.specs.Lates.{lateAt}
 use Rattle.choices.proofs.After.{accepted-pos}
+use Rattle.choices.proofs.Lates.{late-ended, late-row}
 use Rattle.choices.proofs.Effects.{after-skip, after-stay, after-jump, after-receive}
 
 module _ (r : Row) (m : Best) (s : Agent) where
@@ -101,3 +107,16 @@ module _ (tb st : List ℕ) (a t : ℕ) (long : length st ≡ 1105) (low : a < 1
 
   pub pos-within : pos (accepted tb st a t) a ≤ pos st a + 1 + current tb st a .n
   pos-within = rises (current tb st a) (pos st a) _ pos-goes .1
+
+  -- windows climb, so that its late does not fall
+  pub late-rises : goodTable tb ≡ true → Allowed tb st a t → lateAt tb a (pos st a) ≤ lateAt tb a (pos (accepted tb st a t) a)
+  late-rises good c = go (decLt (pos (accepted tb st a t) a) (rows tb a))
+    where
+      own : lateAt tb a (pos st a) ≡ current tb st a .late
+      own = late-row tb a (pos st a) (c .unended)
+
+      go : Dec (pos (accepted tb st a t) a < rows tb a) → lateAt tb a (pos st a) ≤ lateAt tb a (pos (accepted tb st a t) a)
+      go (yes h) =
+          let (_, up) = window-on tb good a (c .agent) (pos st a) (c .unended) (pos (accepted tb st a t) a) pos-goes h in
+          omega (arith, own, late-row tb a (pos (accepted tb st a t) a) h)
+      go (no n) = omega (arith, own, late-bound tb good a (c .agent) (pos st a) (c .unended), late-ended tb a (pos (accepted tb st a t) a) (omega arith))

@@ -1,10 +1,11 @@
 -- Vocabulary of the code alone, as Registers is: while choices are worked out the lates of the agents' current rows stand in a list of their own. Assumes nothing.
 use mathlib.Core.Path.{_≡_}
-use mathlib.Core.Bool.{false, cond}
+use mathlib.Core.Bool.{Bool, false, cond}
 use mathlib.Core.List.{List}
 use Prim.Native.Nat.{ℕ, _<_}
 use lib.Dec.{leb}
 use lib.ListN.{length, getD}
+use Rattle.tables.specs.Basics.{allBelow}
 use Rattle.tables.specs.Layout.{agents, rows, row}
 use Rattle.choices.specs.State.{pos}
 use Rattle.choices.specs.Pick.{allEnded, pickedAgent}
@@ -21,6 +22,10 @@ lateAt tb a p = cond (leb (rows tb a) p) noLate (row tb a p .late)
 pub record Lates (tb st ls : List ℕ) : Type 0 where
   pub size : length ls ≡ 16
   pub each : (a : ℕ) → a < 16 → getD ls a 0 ≡ lateAt tb a (pos st a)
+
+-- the time is above none of the 16 lates
+unfoldable pub aboveNone : (ls : List ℕ) → ℕ → Bool
+aboveNone ls t = allBelow 16 (λ a. leb t (getD ls a 0))
 
 -- some agent is unfinished, and a is the one of them that is picked
 pub record Picks (tb st : List ℕ) (a : ℕ) : Type 0 where

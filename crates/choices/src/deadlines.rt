@@ -1,18 +1,17 @@
-// The lates of the agents' current rows, which stand in an array of their own while choices are worked out, and what a time and a pick go by in them.
+// The lates of the agents' current rows, which stand in an array of their own while choices are worked out, and the deadline that they set.
 use crate::layout::position;
 use tables::layout::MOST_AGENTS;
 use tables::layout::row_count;
 use tables::rows::row_at;
 ghost use mathlib.Core.Path.{_≡_};
 ghost use mathlib.Core.Bool.{true};
-ghost use Prim.Native.Nat.{_≤_, _<_};
+ghost use Prim.Native.Nat.{ℕ, _≤_, _<_, _^_};
 ghost use lib.Dec.{leb};
-ghost use lib.ListN.{length, getD};
-ghost use Rattle.tables.specs.Basics.{allBelow};
+ghost use lib.ListN.{length};
 ghost use Rattle.tables.specs.Layout.{rows, tableWords};
 ghost use Rattle.tables.specs.Table.{goodTable};
 ghost use Rattle.choices.specs.State.{stateWords};
-ghost use Rattle.choices.specs.Lates.{lateAt, Lates};
+ghost use Rattle.choices.specs.Lates.{lateAt, Lates, aboveNone};
 
 // The greatest word, which no time is above: the late of an agent that has ended.
 pub const NO_LATE: u32 = 4294967295;
@@ -41,16 +40,28 @@ pub fn load_lates(table: &[u32], state: &[u32]) -> [u32; MOST_AGENTS]
     lates
 }
 
-// Whether the time is above none of the lates.
-pub fn is_in_time(lates: &[u32], t: u32) -> bool
+// The least late: a time is in time where it is not above it.
+pub fn deadline(lates: &[u32]) -> u32
     requires { ⌜ length (now lates) ≡ 16 ⌝ }
-    ensures { λ r. ⌜ r ≡ allBelow 16 (λ a. leb t (getD (now (lates .entry)) a 0)) ⌝ }
+    ensures { λ d. ⌜ ((t : ℕ) → t < 2 ^ 32 → aboveNone (now (lates .entry)) t ≡ leb t d) ⌝ }
 {
-    let mut r = true;
+    let mut d = NO_LATE;
     for a in 0..MOST_AGENTS {
-        if lates[a] < t {
-            r = false;
+        let late = lates[a];
+        if late < d {
+            d = late;
         }
     }
-    r
+    d
+}
+
+// A deadline by which the time t is told to be in time or not, where d was one: a deadline only rises, so that the lates are looked at only where t is above d.
+pub fn deadline_for(lates: &[u32], d: u32, t: u32) -> u32
+    requires { ⌜ (length (now lates) ≡ 16) × (aboveNone (now lates) d ≡ true) ⌝ }
+    ensures { λ r. ⌜ (aboveNone (now (lates .entry)) t ≡ leb t r) × (aboveNone (now (lates .entry)) r ≡ true) ⌝ }
+{
+    if t <= d {
+        return d;
+    }
+    deadline(lates)
 }

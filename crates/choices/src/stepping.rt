@@ -24,6 +24,7 @@ ghost use mathlib.Core.Path.{_≡_};
 ghost use mathlib.Core.Bool.{true};
 ghost use mathlib.Core.List.{List, []};
 ghost use Prim.Native.Nat.{ℕ, _≤_, _<_};
+ghost use lib.Dec.{leb};
 ghost use lib.ListN.{length, getD, set};
 ghost use Rattle.tables.specs.Layout.{agents, tableWords};
 ghost use Rattle.tables.specs.Rows.{wellFormed};
@@ -35,9 +36,9 @@ ghost use Rattle.choices.specs.Fit.{inTime};
 ghost use Rattle.choices.specs.Step.{choiceReply, withSent};
 ghost use Rattle.choices.specs.Registers.{acted, actInto};
 
-// The reply to the choice of agent a at time t: 10 to 13, 15 or 0. Whether the time is in time for all agents is told.
-pub fn choice_reply(table: &[u32], state: &[u32], a: u32, t: u32, timely: bool) -> u32
-    requires { ⌜ (length (now table) ≡ tableWords) × (length (now state) ≡ stateWords) × (goodTable (now table) ≡ true) × (timely ≡ inTime (now table) (now state) t) ⌝ }
+// The reply to the choice of agent a at time t: 10 to 13, 15 or 0, where d is a deadline by which t is told to be in time or not.
+pub fn choice_reply(table: &[u32], state: &[u32], a: u32, t: u32, d: u32) -> u32
+    requires { ⌜ (length (now table) ≡ tableWords) × (length (now state) ≡ stateWords) × (goodTable (now table) ≡ true) × (inTime (now table) (now state) t ≡ leb t d) ⌝ }
     ensures { λ r. ⌜ r ≡ choiceReply (now (table .entry)) (now (state .entry)) a t ⌝ }
 {
     if agent_count(table) <= a {
@@ -55,7 +56,7 @@ pub fn choice_reply(table: &[u32], state: &[u32], a: u32, t: u32, timely: bool) 
     if t < r.early {
         return TIME_BELOW_EARLY;
     }
-    if !timely {
+    if d < t {
         return TIME_ABOVE_LATE;
     }
     ACCEPTED

@@ -2,13 +2,13 @@
 use mathlib.Core.Path.{_≡_, refl, sym, ap, subst, _∙_}
 use mathlib.Core.Bool.{Bool, true, false, not, cond, true≢false}
 use mathlib.Core.List.{List, [], _∷_}
-use mathlib.Core.Logic.{_≢_, ⊎-elim, inl, inr}
+use mathlib.Core.Logic.{_≢_, ⊎-elim}
 use Prim.Native.Nat.{ℕ, zero, suc, zero-le, max, _-_, _≤_, _<_}
 use native.Mathlib.Omega.{arith}
 use lib.Dec.{leb}
 use lib.ListN.{length, length-take}
 use lib.Seq.{getD-take}
-use borrow.Author.Tests.{leb-true, leb-false, le-leb, lt-leb, lt-ltb, le-ltb, ltb-true, ltb-false, not-false, not-true}
+use borrow.Author.Tests.{leb-true, leb-false, lt-leb, le-ltb, ltb-false, not-false}
 use Rattle.pharos.specs.Model.{Model, System, Good, step, start, _▸_}
 use Rattle.pharos.specs.Runs.{total, Ready, work, Windows, Nearer}
 use Rattle.pharos.proofs.Instance.{model, system, picked, executes-is-step}

@@ -2,7 +2,6 @@
 -- So there is no reply for "stuck", whose number, 14, is reserved. proofs/Ends proves each statement, by the model's progress and completion.
 use mathlib.Core.Path.{_≡_}
 use mathlib.Core.List.{List}
-use mathlib.Core.Logic.{_≢_}
 use Prim.Native.Nat.{ℕ, zero, suc, _-_, _≤_, _<_}
 use Rattle.pharos.specs.Runs.{total}
 use Rattle.tables.specs.Layout.{agents, rows}

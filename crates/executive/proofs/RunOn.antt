@@ -15,11 +15,13 @@ use Rattle.choices.specs.State.{pos, agentAt, posPlace, regPlace}
 use Rattle.choices.specs.Fit.{fits}
 use Rattle.choices.specs.Step.{choiceReply, accepted}
 use Rattle.choices.specs.Registers.{around, listed, register, withRegs, Acted, acted, actInto}
-use Rattle.choices.specs.Lates.{lateAt, Lates}
+use Rattle.choices.specs.Lates.{lateAt, Lates, aboveNone}
 use Rattle.executive.specs.Run.{RunOutcome, ended, runFrom}
 use Rattle.choices.proofs.Lists.{getD-part}
 use Rattle.choices.proofs.After.{accepted-length, accepted-other, accepted-pos-other}
-use Rattle.choices.proofs.Lates.{late-changed}
+use Rattle.choices.proofs.Lates.{late-changed, still-above-none}
+use Rattle.choices.proofs.Onward.{late-rises}
+use Rattle.choices.proofs.Choice.{allowed}
 use Rattle.executive.proofs.Fitting.{fits-says}
 use Rattle.executive.proofs.Outcomes.{wordsAfter}
 use Rattle.executive.proofs.Runs.{run-go, run-stop, count-within}
@@ -111,6 +113,15 @@ module _ (tb st : List ℕ) (g : List (List ℕ)) (a t : ℕ) where
           late-changed tb st ws ls a (q .pos) late low l e (same a low ∙ sym (ap (λ (s : Agent). s .pos) agent-is))
           (λ b h n. same b h ∙ accepted-pos-other tb (withRegs st g) a t (whole-length st g long) low b h n ∙ whole-low st g long (posPlace b) (omega arith))
 
+      -- and a deadline stays one
+      pub deadline-after : goodTable tb ≡ true → choiceReply tb (withRegs st g) a t ≡ 0 → (ls : List ℕ) → Lates tb st ls → (d : ℕ) → aboveNone ls d ≡ true
+          → (late : ℕ) → late ≡ lateAt tb a (q .pos) → aboveNone (set ls a late) d ≡ true
+      deadline-after good c ls l d h late e =
+          let up = late-rises tb (withRegs st g) a t (whole-length st g long) low good (allowed tb (withRegs st g) a t c) in
+          let was = l .each a low ∙ ap (lateAt tb a) (sym (whole-low st g long (posPlace a) (omega arith))) in
+          let is = e ∙ ap (λ (s : Agent). lateAt tb a (s .pos)) agent-is in
+          still-above-none ls d a late (omega (arith, l .size)) h (λ k. omega arith)
+
       pub accepted-run : choiceReply tb (withRegs st g) a t ≡ 0 → (n : ℕ) (cs : List ℕ) → runFrom tb (withRegs st g) n (a ∷ t ∷ cs) ≡ runFrom tb (withRegs ws (set g a (q .regs))) (n + 1) cs
       accepted-run h n cs = run-go tb (withRegs st g) n a t cs h ∙ ap (λ (l : List ℕ). runFrom tb l (n + 1) cs) (sym whole-after)
 
@@ -151,6 +162,12 @@ count-bound tb good from long fit cs st ds n e =
     let l = count-least tb st n ds in
     let q = ap (λ (o : RunOutcome). o .count) e in
     omega arith
+
+-- what a loop over choices holds besides what is left to do, L: the lates are those of the agents' current rows, and d is above none of them
+pub record Turning (L : Type 0) (tb st ls : List ℕ) (d : ℕ) : Type 0 where
+  pub left : L
+  pub lates : Lates tb st ls
+  pub rises : aboveNone ls d ≡ true
 
 -- ---- one turn of the loop over the choices cs
 

@@ -1,5 +1,5 @@
 // Whether a state fits a good table: what reply 9 denies.
-use choices::deadlines::is_in_time;
+use choices::deadlines::deadline;
 use choices::deadlines::load_lates;
 use choices::layout::MARKS_AT;
 use choices::layout::REGISTERS_AT;
@@ -121,7 +121,7 @@ pub fn state_fits(table: &[u32], state: &[u32]) -> bool
         return false;
     }
     let lates = load_lates(table, state);
-    if !is_in_time(&lates, t) {
+    if deadline(&lates) < t {
         return false;
     }
     if !agents_are_good(table, state) {

@@ -3,7 +3,7 @@ use crate::Ran;
 use crate::registers::load_registers;
 use crate::registers::store_registers;
 use crate::starting::put_start;
-use choices::deadlines::is_in_time;
+use choices::deadlines::deadline_for;
 use choices::deadlines::late_at;
 use choices::deadlines::load_lates;
 use choices::stepping::act;
@@ -34,12 +34,14 @@ fn work_out(
 {
     let mut all = regs;
     let mut lates = load_lates(table, state);
+    let mut d: u32 = 0;
     let mut count: u32 = 0;
     let mut i = 0;
     while i < choices.len() {
         let a = choices[i];
         let t = choices[i + 1];
-        let reply = choice_reply(table, state, a, t, is_in_time(&lates, t));
+        d = deadline_for(&lates, d, t);
+        let reply = choice_reply(table, state, a, t, d);
         if reply != ACCEPTED {
             store_registers(state, all);
             return Ran { reply, count };

@@ -6,7 +6,7 @@ use crate::writing::LAST_BYTES;
 use crate::writing::STEP_BYTES;
 use crate::writing::put_last_line;
 use crate::writing::put_step_line;
-use choices::deadlines::is_in_time;
+use choices::deadlines::deadline_for;
 use choices::deadlines::late_at;
 use choices::deadlines::load_lates;
 use choices::layout::STATE_WORDS;
@@ -58,13 +58,15 @@ pub fn trace_steps(choices: &[u8], table: &[u32], out: &mut [u8]) -> TraceReply
     put_start(table, &mut state);
     let mut regs = load_registers(&state);
     let mut lates = load_lates(table, &state);
+    let mut d: u32 = 0;
     let mut n: u32 = 0;
     let mut at = 0;
     let mut end = 0;
     while at < choices.len() {
         let a = field(choices, at + AGENT_AT, 2);
         let t = field(choices, at + TIME_AT, 8);
-        let reply = choice_reply(table, &state, a, t, is_in_time(&lates, t));
+        d = deadline_for(&lates, d, t);
+        let reply = choice_reply(table, &state, a, t, d);
         if reply != ACCEPTED {
             return finish(out, end, reply, n);
         }

@@ -1,7 +1,7 @@
 -- `choice_reply` meets its contract: the tests of `choiceReply` in their order. Assumes nothing.
-use mathlib.Core.Path.{sym}
+use mathlib.Core.Path.{sym, _∙_}
 use native.Mathlib.Omega.{arith}
-use Rattle.tables.proofs.Tests.{refused, granted}
+use borrow.Author.Tests.{le-leb, lt-leb}
 use Rattle.tables.proofs.Good.{few, few-rows}
 use Rattle.choices.proofs.Choice.{reply-10, reply-11, reply-12, reply-13, reply-15, reply-0}
 use borrow.Author.Needs.{needs}
@@ -55,7 +55,7 @@ returns-5 c =
     let p = m .before .before .position .ensures in
     sym (reply-15 _ _ _ _ (rw (n .before .agent-count .ensures) at (n .if1 .left)) (rw (m .before .row-count .ensures, p) at (m .if2 .left))
     (rw (k .before .clock .ensures) at (k .if3 .left)) (rw (e .before .before .row-at .ensures, p) at (e .if4 .left))
-    (refused _ _ (n .before .before .before .before .pre .3) (c .if5 .taken)))
+    (n .before .before .before .before .pre .3 ∙ lt-leb _ _ (c .if5 .taken)))
 
 returns-6 : tie.Need-returns-6
 returns-6 c =
@@ -66,7 +66,7 @@ returns-6 c =
     let p = m .before .before .position .ensures in
     sym (reply-0 _ _ _ _ (rw (n .before .agent-count .ensures) at (n .if1 .left)) (rw (m .before .row-count .ensures, p) at (m .if2 .left))
     (rw (k .before .clock .ensures) at (k .if3 .left)) (rw (e .before .before .row-at .ensures, p) at (e .if4 .left))
-    (granted _ _ (n .before .before .before .before .pre .3) (c .if5 .left)))
+    (n .before .before .before .before .pre .3 ∙ le-leb _ _ (c .if5 .left)))
 
 pub choice-reply-spec : {M : Type 1} → statement M
 choice-reply-spec =

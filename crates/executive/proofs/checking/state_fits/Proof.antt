@@ -28,11 +28,11 @@ returns-2 c =
 load-lates-requires : tie.Need-load-lates-requires
 load-lates-requires c κs = search needs
 
-slice-aggregate-is-in-time : tie.Need-slice-aggregate-is-in-time
-slice-aggregate-is-in-time c = search needs
+slice-aggregate-deadline : tie.Need-slice-aggregate-deadline
+slice-aggregate-deadline c = search needs
 
-is-in-time-requires : tie.Need-is-in-time-requires
-is-in-time-requires c κs = c .before .load-lates .ensures .size
+deadline-requires : tie.Need-deadline-requires
+deadline-requires c κs = c .before .load-lates .ensures .size
 
 returns-3 : tie.Need-returns-3
 unfolding fits
@@ -44,7 +44,7 @@ returns-3 c =
     rw (← k .ensures)
     (every-go _ _ _ (le-leb _ _ (d .before .if1 .left))
     (every-go _ _ _ (le-leb _ _ (d .if2 .left))
-    (every-stop _ _ (refused _ _ (c .before .is-in-time .ensures ∙ in-time-lates (g .args .table .now) (g .pre .2) (g .args .state .now) _ (m .load-lates .ensures) (k .result) (omega arith)) (c .if3 .taken)))))
+    (every-stop _ _ (in-time-lates (g .args .table .now) (g .pre .2) (g .args .state .now) _ (m .load-lates .ensures) (k .result) (omega arith) ∙ c .before .deadline .ensures (k .result) (omega arith) ∙ lt-leb _ _ (c .if3 .taken)))))
 
 agents-are-good-requires : tie.Need-agents-are-good-requires
 agents-are-good-requires c κs = search needs
@@ -60,7 +60,7 @@ returns-4 c =
     rw (← k .ensures)
     (every-go _ _ _ (le-leb _ _ (d .before .if1 .left))
     (every-go _ _ _ (le-leb _ _ (d .if2 .left))
-    (every-go _ _ _ (granted _ _ (e .before .is-in-time .ensures ∙ in-time-lates (g .args .table .now) (g .pre .2) (g .args .state .now) _ (m .load-lates .ensures) (k .result) (omega arith)) (e .if3 .left))
+    (every-go _ _ _ (in-time-lates (g .args .table .now) (g .pre .2) (g .args .state .now) _ (m .load-lates .ensures) (k .result) (omega arith) ∙ e .before .deadline .ensures (k .result) (omega arith) ∙ le-leb _ _ (e .if3 .left))
     (every-stop _ _ (refused _ _ (c .before .agents-are-good .ensures) (c .if4 .taken))))))
 
 agent-count-requires : tie.Need-agent-count-requires
@@ -87,7 +87,7 @@ returns-5 c =
     rw (← k .ensures, ← c .before .agent-count .ensures)
     (every-go _ _ _ (le-leb _ _ (d .before .if1 .left))
     (every-go _ _ _ (le-leb _ _ (d .if2 .left))
-    (every-go _ _ _ (granted _ _ (e .before .is-in-time .ensures ∙ in-time-lates (g .args .table .now) (g .pre .2) (g .args .state .now) _ (m .load-lates .ensures) (k .result) (omega arith)) (e .if3 .left))
+    (every-go _ _ _ (in-time-lates (g .args .table .now) (g .pre .2) (g .args .state .now) _ (m .load-lates .ensures) (k .result) (omega arith) ∙ e .before .deadline .ensures (k .result) (omega arith) ∙ le-leb _ _ (e .if3 .left))
     (every-go _ _ _ (rw (← c .before .agent-count .ensures) at (granted _ _ (f .before .agents-are-good .ensures) (f .if4 .left)))
     (c .unused-are-zero .ensures)))))
 
@@ -99,8 +99,8 @@ state-fits-spec =
     returns
     returns-2
     load-lates-requires
-    slice-aggregate-is-in-time
-    is-in-time-requires
+    slice-aggregate-deadline
+    deadline-requires
     returns-3
     agents-are-good-requires
     returns-4
