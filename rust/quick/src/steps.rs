@@ -72,9 +72,12 @@ impl<'a> State<'a> {
     }
 }
 
-/// The lates of the agents' current rows, for the deadline; the greatest number for those that
-/// have ended.
-pub struct Lates([u32; AGENTS]);
+/// The lates of the agents' current rows, the greatest number for those that have ended; and a
+/// deadline that was the least of them. Lates only rise, so no time up to it is above any.
+pub struct Lates {
+    lates: [u32; AGENTS],
+    deadline: u32,
+}
 
 impl Lates {
     fn of(table: &Table, positions: &[u32; AGENTS]) -> Lates {
@@ -84,20 +87,29 @@ impl Lates {
                 *late = table.places(a)[positions[a] as usize][3];
             }
         }
-        Lates(lates)
+        Lates { lates, deadline: 0 }
     }
 
-    fn deadline(&self) -> u32 {
-        self.0.iter().fold(u32::MAX, |least, &late| least.min(late))
+    fn least(&self) -> u32 {
+        self.lates.iter().fold(u32::MAX, |least, &late| least.min(late))
+    }
+
+    /// Whether the time is above one of them.
+    #[inline(always)]
+    fn is_passed_by(&mut self, time: u32) -> bool {
+        if time > self.deadline {
+            self.deadline = self.least();
+        }
+        time > self.deadline
     }
 
     /// The lowest of the agents that have the least late; none once all have ended.
     fn first(&self) -> Option<usize> {
-        let least = self.deadline();
+        let least = self.least();
         if least == u32::MAX {
             return None;
         }
-        self.0.iter().position(|&late| late == least)
+        self.lates.iter().position(|&late| late == least)
     }
 }
 
@@ -128,7 +140,7 @@ pub fn take<const NARROW: bool>(
     if time < early {
         return TIME_BELOW_EARLY;
     }
-    if time > lates.deadline() {
+    if lates.is_passed_by(time) {
         return TIME_ABOVE_LATE;
     }
     let x = (code >> 16 & 3) as usize;
@@ -157,7 +169,7 @@ pub fn take<const NARROW: bool>(
     }
     let after = position + 1 + n;
     state.positions[a] = after;
-    lates.0[a] = if after < count { rows[after as usize % ROWS][3] } else { u32::MAX };
+    lates.lates[a] = if after < count { rows[after as usize % ROWS][3] } else { u32::MAX };
     *state.clock = time;
     ACCEPTED
 }
