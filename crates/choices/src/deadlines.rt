@@ -55,7 +55,8 @@ pub fn deadline(lates: &[u32]) -> u32
     d
 }
 
-// A deadline by which the time t is told to be in time or not, where d was one: a deadline only rises, so that the lates are looked at only where t is above d.
+// A deadline by which the time t is told to be in time or not, where the last one was d: windows climb, so that a deadline only rises, and the lates are looked at only
+// where t is above it.
 pub fn deadline_for(lates: &[u32], d: u32, t: u32) -> u32
     requires { ⌜ (length (now lates) ≡ 16) × (aboveNone (now lates) d ≡ true) ⌝ }
     ensures { λ r. ⌜ (aboveNone (now (lates .entry)) t ≡ leb t r) × (aboveNone (now (lates .entry)) r ≡ true) ⌝ }

@@ -36,9 +36,9 @@ ghost use Rattle.choices.specs.Fit.{inTime};
 ghost use Rattle.choices.specs.Step.{choiceReply, withSent};
 ghost use Rattle.choices.specs.Registers.{acted, actInto};
 
-// The reply to the choice of agent a at time t: 10 to 13, 15 or 0, where d is a deadline by which t is told to be in time or not.
-pub fn choice_reply(table: &[u32], state: &[u32], a: u32, t: u32, d: u32) -> u32
-    requires { ⌜ (length (now table) ≡ tableWords) × (length (now state) ≡ stateWords) × (goodTable (now table) ≡ true) × (inTime (now table) (now state) t ≡ leb t d) ⌝ }
+// The reply to the choice of agent a at time t: 10 to 13, 15 or 0, given a deadline by which t is told to be in time or not.
+pub fn choice_reply(table: &[u32], state: &[u32], a: u32, t: u32, deadline: u32) -> u32
+    requires { ⌜ (length (now table) ≡ tableWords) × (length (now state) ≡ stateWords) × (goodTable (now table) ≡ true) × (inTime (now table) (now state) t ≡ leb t deadline) ⌝ }
     ensures { λ r. ⌜ r ≡ choiceReply (now (table .entry)) (now (state .entry)) a t ⌝ }
 {
     if agent_count(table) <= a {
@@ -56,7 +56,7 @@ pub fn choice_reply(table: &[u32], state: &[u32], a: u32, t: u32, d: u32) -> u32
     if t < r.early {
         return TIME_BELOW_EARLY;
     }
-    if d < t {
+    if deadline < t {
         return TIME_ABOVE_LATE;
     }
     ACCEPTED

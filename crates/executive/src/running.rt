@@ -34,14 +34,15 @@ fn work_out(
 {
     let mut all = regs;
     let mut lates = load_lates(table, state);
-    let mut d: u32 = 0;
+    // The last one that was worked out: 0 is above no late.
+    let mut deadline: u32 = 0;
     let mut count: u32 = 0;
     let mut i = 0;
     while i < choices.len() {
         let a = choices[i];
         let t = choices[i + 1];
-        d = deadline_for(&lates, d, t);
-        let reply = choice_reply(table, state, a, t, d);
+        deadline = deadline_for(&lates, deadline, t);
+        let reply = choice_reply(table, state, a, t, deadline);
         if reply != ACCEPTED {
             store_registers(state, all);
             return Ran { reply, count };

@@ -58,15 +58,16 @@ pub fn trace_steps(choices: &[u8], table: &[u32], out: &mut [u8]) -> TraceReply
     put_start(table, &mut state);
     let mut regs = load_registers(&state);
     let mut lates = load_lates(table, &state);
-    let mut d: u32 = 0;
+    // The last one that was worked out: 0 is above no late.
+    let mut deadline: u32 = 0;
     let mut n: u32 = 0;
     let mut at = 0;
     let mut end = 0;
     while at < choices.len() {
         let a = field(choices, at + AGENT_AT, 2);
         let t = field(choices, at + TIME_AT, 8);
-        d = deadline_for(&lates, d, t);
-        let reply = choice_reply(table, &state, a, t, d);
+        deadline = deadline_for(&lates, deadline, t);
+        let reply = choice_reply(table, &state, a, t, deadline);
         if reply != ACCEPTED {
             return finish(out, end, reply, n);
         }

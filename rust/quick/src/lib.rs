@@ -2,8 +2,8 @@
 //! what the benchmark measures the proved library against. `cases` compares it with the reference.
 //!
 //! It works on the lent words where they stand and tests many words without a branch for each. Its
-//! cost is that of the paper's own account: one check of the table, for each step the number of
-//! agents, and for a RECV the places that it looks at, which are all places of the agents that there
+//! cost is that of the paper's own account: one check of the table, for each step at most the number
+//! of agents, and for a RECV the places that it looks at, which are all places of the agents that there
 //! are. It keeps no index between steps. The calls named `narrow` look only at rows that their agent
 //! has passed, as change request T-06 asks.
 

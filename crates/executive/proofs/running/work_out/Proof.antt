@@ -1,4 +1,4 @@
--- `work_out` meets its contract: what is left of the choices ends as all of them do; the lates are those of the agents' current rows, and d is above none of them. Assumes nothing.
+-- `work_out` meets its contract: what is left of the choices ends as all of them do; the lates are those of the agents' current rows, and the deadline is above none of them. Assumes nothing.
 use mathlib.Core.Path.{refl, sym, ap, _∙_}
 use Prim.Native.Nat.{_+_, _-_}
 use native.Mathlib.Omega.{arith}
@@ -14,10 +14,10 @@ use Rattle.executive.proofs.running.work_out.Statement.{statement}
 use Rattle.executive.proofs.running.work_out.Tie as tie
 
 abbrev Inv-loop : tie.InvT-loop
-Inv-loop table state₀ choices all₀ lates₀ d₀ count₀ i₀ state all lates d count i = Turning (Left table (withRegs state₀ all₀) choices state all count i) table state lates d
+Inv-loop table state₀ choices all₀ lates₀ deadline₀ count₀ i₀ state all lates deadline count i = Turning (Left table (withRegs state₀ all₀) choices state all count i) table state lates deadline
 
 abbrev μ-loop : tie.MeasureT-loop
-μ-loop table state₀ choices all₀ lates₀ d₀ count₀ i₀ state all lates d count i = length choices - i
+μ-loop table state₀ choices all₀ lates₀ deadline₀ count₀ i₀ state all lates deadline count i = length choices - i
 
 load-lates-requires : tie.Need-load-lates-requires Inv-loop μ-loop
 load-lates-requires c κs =

@@ -1,5 +1,5 @@
 -- `trace_steps` meets its contract. The invariant is `Going`: what is left of the output, put where the step lines end, makes the whole; the lates are those of
--- the agents' current rows, and d is above none of them. Assumes nothing.
+-- the agents' current rows, and the deadline is above none of them. Assumes nothing.
 use native.Mathlib.Omega.{arith}
 use borrow.Author.Needs.{needs}
 use mathlib.Core.Path.{_≡_, refl, sym, ap, _∙_}
@@ -21,10 +21,10 @@ use Rattle.traces.proofs.tracing.trace_steps.Statement.{statement}
 use Rattle.traces.proofs.tracing.trace_steps.Tie as tie
 
 abbrev Inv-loop : tie.InvT-loop
-Inv-loop choices table out₀ state₀ regs₀ lates₀ d₀ n₀ at₀ end₀ out state regs lates d n at end = Turning (Going table choices out₀ out state regs n at end) table state lates d
+Inv-loop choices table out₀ state₀ regs₀ lates₀ deadline₀ n₀ at₀ end₀ out state regs lates deadline n at end = Turning (Going table choices out₀ out state regs n at end) table state lates deadline
 
 abbrev μ-loop : tie.MeasureT-loop
-μ-loop choices table out₀ state₀ regs₀ lates₀ d₀ n₀ at₀ end₀ out state regs lates d n at end = length choices - at
+μ-loop choices table out₀ state₀ regs₀ lates₀ deadline₀ n₀ at₀ end₀ out state regs lates deadline n at end = length choices - at
 
 -- in a turn: a choice line stands here, whole
 chosen-line : (c : tie.In-loop Inv-loop μ-loop) → IsChoice (c .before .before .before .before .before .before .before .before .before .before .before .before .before .args .choices .now) (c .before .loop .at)
