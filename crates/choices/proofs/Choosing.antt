@@ -14,6 +14,7 @@ use Rattle.tables.specs.Layout.{agents, rows, row}
 use Rattle.tables.specs.Rows.{wellFormed}
 use Rattle.tables.specs.Table.{goodTable}
 use Rattle.tables.specs.declared.Row.{Row}
+use Rattle.tables.proofs.Passed.{below-same}
 use Rattle.tables.proofs.Good.{few, few-rows, formed}
 use Rattle.choices.specs.declared.Agent.{Agent}
 use Rattle.choices.specs.State.{Pool, pos, mark, value, pool, agentAt, posPlace, regPlace, markPlace, valuePlace}
@@ -25,7 +26,6 @@ use Rattle.choices.specs.Registers.{around, listed, register, withRegs, 
 use Rattle.choices.proofs.Lists.{getD-part}
 use Rattle.choices.proofs.Around.{listed-length, listed-at, around-length, around-low, around-mid, around-high, around-own, around-around, around-set, around-sets}
 use Rattle.choices.proofs.Choice.{allowed}
-use Rattle.choices.proofs.Lates.{below-same}
 use Rattle.choices.proofs.After.{next, after-four, accepted-self}
 
 -- ---- the reply goes by the clock and the positions alone

@@ -12,8 +12,7 @@ use lib.Dec.{leb}
 use lib.ListN.{length, getD, set, length-set}
 use lib.Seq.{getD-set-same, getD-set-other}
 use borrow.Author.Tests.{leb-true, le-leb, lt-leb, le-ltb, lt-ltb}
-use Rattle.tables.proofs.Tests.{and-yes}
-use Rattle.tables.proofs.Passed.{below, all-below}
+use Rattle.tables.proofs.Passed.{below, all-below, below-suc, below-more, below-same}
 use Rattle.tables.specs.Basics.{allBelow}
 use Rattle.tables.specs.Layout.{agents, rows, row}
 use Rattle.tables.specs.Table.{goodTable}
@@ -21,29 +20,6 @@ use Rattle.tables.proofs.Good.{few, few-rows, table-facts, no-count}
 use Rattle.choices.specs.State.{pos}
 use Rattle.choices.specs.Fit.{unfinished, current, inTime}
 use Rattle.choices.specs.Lates.{noLate, lateAt, Lates, aboveNone}
-
--- ---- tests over a range
-
--- one number more
-pub below-suc : (n : ℕ) (f : ℕ → Bool) → allBelow (n + 1) f ≡ (allBelow n f && f n)
-unfolding allBelow
-below-suc n f = rw (add-one n)
-
--- a test that holds from n on
-pub below-more : (n m : ℕ) (f : ℕ → Bool) → n ≤ m → ((b : ℕ) → n ≤ b → b < m → f b ≡ true) → allBelow m f ≡ allBelow n f
-unfolding allBelow
-below-more n zero f h k = let e : n ≡ 0 = omega arith in rw e
-below-more n (suc m) f h k = go (ℕ-discrete n (suc m)) (λ l. below-more n m f l (λ b u v. k b u (omega arith)))
-  where
-    go : Dec (n ≡ suc m) → (n ≤ m → allBelow m f ≡ allBelow n f) → allBelow (suc m) f ≡ allBelow n f
-    go (yes e) rest = rw e
-    go (no d) rest = and-yes (allBelow m f) (f m) (k m (omega arith) (omega arith)) ∙ rest (omega arith)
-
--- two tests of one answer
-pub below-same : (n : ℕ) (f g : ℕ → Bool) → ((i : ℕ) → i < n → f i ≡ g i) → allBelow n f ≡ allBelow n g
-unfolding allBelow
-below-same zero f g h = refl
-below-same (suc n) f g h = ap₂ _&&_ (below-same n f g (λ i l. h i (omega arith))) (h n (omega arith))
 
 -- ---- the deadline: the least of the lates, agent by agent
 

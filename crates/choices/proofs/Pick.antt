@@ -1,7 +1,7 @@
 -- Which agent can be run, and which is picked: the first of the least lates. Assumes nothing.
 use mathlib.Core.Path.{_≡_, refl, sym, ap, _∙_}
 use mathlib.Core.Logic.{_≢_, _⊎_, inl, inr}
-use mathlib.Core.Bool.{Bool, true, false, not, _&&_}
+use mathlib.Core.Bool.{Bool, true, false, not, false≢true}
 use mathlib.Core.List.{List}
 use Prim.Native.Nat.{ℕ, _+_, _≤_, _<_}
 use native.Mathlib.Decide.{decLt, ℕ-discrete}
@@ -13,30 +13,53 @@ use Rattle.tables.specs.Table.{goodTable}
 use Rattle.tables.specs.declared.Row.{Row}
 use Rattle.tables.proofs.Tests.{and-both, and-left, and-right}
 use Rattle.tables.proofs.Passed.{and-1, and-2, all-below, not-all-below}
-use Rattle.tables.proofs.FirstBelow.{first-below-is}
+use Rattle.tables.proofs.FirstBelow.{first-below-is, first-below-found}
 use Rattle.tables.proofs.Good.{few, table-facts, no-count, late-bound}
 use Rattle.choices.specs.State.{clock, pos}
 use Rattle.choices.specs.Fit.{unfinished, current, inTime}
-use Rattle.choices.specs.Step.{Allowed}
+use Rattle.choices.specs.Step.{InTime, Allowed}
 use Rattle.choices.specs.Pick.{soonest, canGo, allEnded, hasLeastLate, pickedAgent}
 use Rattle.choices.specs.Lates.{noLate, Lates, Picks}
 use Rattle.choices.proofs.Choice.{in-time, time-in}
 use Rattle.choices.proofs.Lates.{late-ended, late-row}
 
 module _ (tb st : List ℕ) (a : ℕ) where
-  pub live : unfinished tb st a ≡ true → pos st a < rows tb a
+  -- an unfinished agent's position is below its row count, and the other way round
+  pub below-its-rows : unfinished tb st a ≡ true → pos st a < rows tb a
   unfolding unfinished
-  live h = ltb-true (pos st a) (rows tb a) h
+  below-its-rows h = ltb-true (pos st a) (rows tb a) h
 
-  pub alive : pos st a < rows tb a → unfinished tb st a ≡ true
+  pub is-unfinished : pos st a < rows tb a → unfinished tb st a ≡ true
   unfolding unfinished
-  alive h = lt-ltb (pos st a) (rows tb a) h
+  is-unfinished h = lt-ltb (pos st a) (rows tb a) h
+
+  pub has-ended : rows tb a ≤ pos st a → unfinished tb st a ≡ false
+  unfolding unfinished
+  has-ended h = le-ltb (pos st a) (rows tb a) h
+
+  -- one of them is enough for some to be left
+  pub some-left : a < agents tb → pos st a < rows tb a → allEnded tb st ≡ false
+  unfolding allEnded
+  some-left h l = not-all-below (agents tb) (λ b. not (unfinished tb st b)) a h (rw (is-unfinished l))
+
+  -- it has the least late where it is not above that of any unfinished agent's row, and the other way round
+  pub is-least : pos st a < rows tb a → InTime tb st (current tb st a .late) → hasLeastLate tb st a ≡ true
+  unfolding hasLeastLate
+  is-least l h =
+      and-both (unfinished tb st a) (inTime tb st (current tb st a .late)) (is-unfinished l) (time-in tb st (current tb st a .late) h)
+
+  pub least-is : hasLeastLate tb st a ≡ true → (pos st a < rows tb a) × InTime tb st (current tb st a .late)
+  unfolding hasLeastLate
+  least-is h = (
+    below-its-rows (and-1 (unfinished tb st a) (inTime tb st (current tb st a .late)) h),
+    in-time tb st (current tb st a .late) (and-2 (unfinished tb st a) (inTime tb st (current tb st a .late)) h),
+  )
 
   -- an agent that may be chosen at some time can go
   pub can-go : (t : ℕ) → Allowed tb st a t → canGo tb st a ≡ true
   unfolding canGo
   can-go t c =
-      and-both (unfinished tb st a) (inTime tb st (soonest tb st a)) (alive (c .unended))
+      and-both (unfinished tb st a) (inTime tb st (soonest tb st a)) (is-unfinished (c .unended))
       (time-in tb st (soonest tb st a) (λ b h l. omega (arith, c .late b h l, c .clock, c .early)))
 
   -- and may then be chosen at the soonest
@@ -45,7 +68,7 @@ module _ (tb st : List ℕ) (a : ℕ) where
   goes-soonest low h =
       record {
         agent = low;
-        unended = live (and-1 (unfinished tb st a) (inTime tb st (soonest tb st a)) h);
+        unended = below-its-rows (and-1 (unfinished tb st a) (inTime tb st (soonest tb st a)) h);
         clock = omega arith;
         early = omega arith;
         late = in-time tb st (soonest tb st a) (and-2 (unfinished tb st a) (inTime tb st (soonest tb st a)) h);
@@ -61,6 +84,24 @@ module _ (tb st : List ℕ) (a : ℕ) where
 
     pub clock-later : r .early ≤ t → t ≡ soonest tb st a
     clock-later h = omega (arith, early-is)
+
+module _ (tb st : List ℕ) where
+  pub all-over : ((b : ℕ) → b < agents tb → rows tb b ≤ pos st b) → allEnded tb st ≡ true
+  unfolding allEnded
+  all-over h = all-below (agents tb) (λ b. not (unfinished tb st b)) (λ b l. rw (has-ended tb st b (h b l)))
+
+  pub over-all : allEnded tb st ≡ true → (b : ℕ) → b < agents tb → rows tb b ≤ pos st b
+  unfolding allEnded
+  over-all e b h = go (decLt (pos st b) (rows tb b))
+    where
+      go : Dec (pos st b < rows tb b) → rows tb b ≤ pos st b
+      go (yes l) = absurd (false≢true (sym (some-left tb st b h l) ∙ e))
+      go (no n) = omega arith
+
+  -- an agent is left, and of those that are one has the least late: that one, or one of a lower number with the same late, is picked
+  pub picked-is : (a : ℕ) → a < agents tb → hasLeastLate tb st a ≡ true → (pickedAgent tb st < agents tb) × (hasLeastLate tb st (pickedAgent tb st) ≡ true)
+  unfolding pickedAgent
+  picked-is a h l = first-below-found (agents tb) (hasLeastLate tb st) a h l
 
 -- ---- the first of the least lates
 
@@ -119,35 +160,26 @@ module _ (tb st ls : List ℕ) (good : goodTable tb ≡ true) (l : Lates tb st l
       go (no p) q = absurd (omega (arith, l .each a h ∙ late-ended tb a (pos st a) (omega arith)))
 
   ended-all : ((a : ℕ) → a < 16 → noLate ≤ getD ls a 0) → allEnded tb st ≡ true
-  unfolding allEnded unfinished
-  ended-all h = all-below (agents tb) _ (λ a k. go a k (decLt (pos st a) (rows tb a)))
+  ended-all h = all-over tb st (λ a k. go a k (decLt (pos st a) (rows tb a)))
     where
-      go : (a : ℕ) → a < agents tb → Dec (pos st a < rows tb a) → not (unfinished tb st a) ≡ true
+      go : (a : ℕ) → a < agents tb → Dec (pos st a < rows tb a) → rows tb a ≤ pos st a
       go a k (yes p) = let q = own-late a k p in absurd (omega (arith, q .0, q .1, h a (omega (arith, few tb good))))
-      go a k (no p) = rw (le-ltb (pos st a) (rows tb a) (omega arith))
+      go a k (no p) = omega arith
 
   module _ (a : ℕ) (h : a < agents tb) (k : pos st a < rows tb a) where
-    not-ended : allEnded tb st ≡ false
-    unfolding allEnded
-    not-ended = not-all-below (agents tb) (λ b. not (unfinished tb st b)) a h (rw (alive tb st a k))
-
     -- an agent below it is not the least where its late is greater
     not-least : (j : ℕ) → j < agents tb → current tb st a .late < getD ls j 0 → hasLeastLate tb st j ≡ false
-    unfolding hasLeastLate unfinished
-    not-least j q above = go (decLt (pos st j) (rows tb j)) (inTime tb st (current tb st j .late)) refl
+    not-least j q above = go (hasLeastLate tb st j) refl
       where
-        go : Dec (pos st j < rows tb j) → (v : Bool) → inTime tb st (current tb st j .late) ≡ v → (unfinished tb st j && inTime tb st (current tb st j .late)) ≡ false
-        go (no n) v e = and-left _ _ (le-ltb (pos st j) (rows tb j) (omega arith))
-        go (yes n) false e = and-right (unfinished tb st j) _ e
-        go (yes n) true e = absurd (omega (arith, in-time tb st (current tb st j .late) e a h k, own-late j q n .0))
+        go : (v : Bool) → hasLeastLate tb st j ≡ v → v ≡ false
+        go false e = refl
+        go true e = let (n, due) = least-is tb st j e in absurd (omega (arith, due a h k, own-late j q n .0))
 
     first-least : ((b : ℕ) → b < agents tb → pos st b < rows tb b → current tb st a .late ≤ current tb st b .late)
         → ((j : ℕ) → j < a → current tb st a .late < getD ls j 0) → pickedAgent tb st ≡ a
-    unfolding pickedAgent hasLeastLate
+    unfolding pickedAgent
     first-least least before =
-        first-below-is (agents tb) (hasLeastLate tb st) a h
-        (and-both (unfinished tb st a) (inTime tb st (current tb st a .late)) (alive tb st a k) (time-in tb st (current tb st a .late) least))
-        (λ j q. not-least j (omega arith) (before j q))
+        first-below-is (agents tb) (hasLeastLate tb st) a h (is-least tb st a k least) (λ j q. not-least j (omega arith) (before j q))
 
   -- what the loop has found once all are passed
   module _ (a least : ℕ) (f : FirstLeast ls 16 a least) where
@@ -167,7 +199,7 @@ module _ (tb st ls : List ℕ) (good : goodTable tb ≡ true) (l : Lates tb st l
             let (q, p) = some-late a h (omega arith) in
             let late = own-late a q p .0 in
             record {
-              some = not-ended a q p;
+              some = some-left tb st a q p;
               agent = q;
               unended = p;
               is = sym (first-least a q p (λ b x y. omega (arith, own-late b x y .0, f .lowest b (omega (arith, few tb good)))) (λ j x. omega (arith, before j x)));

@@ -18,32 +18,33 @@ use Rattle.tables.specs.Basics.{first}
 use Rattle.tables.specs.Layout.{agents, rows, row, tableWords}
 use Rattle.tables.proofs.Good.{few}
 use Rattle.tables.proofs.Onward.{rises}
-use Rattle.tables.proofs.Passed.{and-1, and-2, passed, all-below, not-all-below}
+use Rattle.tables.proofs.Passed.{passed, some-fails}
 use Rattle.tables.proofs.Tests.{and-both}
 use Rattle.tables.proofs.FirstBelow.{first-below-found}
 use Rattle.choices.specs.declared.Agent.{Agent}
 use Rattle.choices.specs.State.{clock, pos, posPlace, stateWords}
 use Rattle.choices.specs.Fit.{unfinished, current, inTime}
-use Rattle.choices.specs.Step.{choiceReply, accepted}
+use Rattle.choices.specs.Step.{choiceReply, accepted, InTime}
 use Rattle.choices.specs.Pick.{soonest, allEnded, hasLeastLate, pickedAgent}
-use Rattle.choices.proofs.Choice.{allowed as permitted, in-time, time-in}
-use Rattle.choices.proofs.Pick.{alive, live as unended-is}
-use Rattle.executive.specs.Calls.{tablePart, statePart, stepInto, PickOutcome, pickReply, pickFrom}
+use Rattle.choices.proofs.Choice.{allowed as permitted}
+use Rattle.choices.proofs.Pick.{below-its-rows, is-unfinished, some-left, is-least, least-is, all-over, over-all, picked-is}
+use Rattle.executive.specs.Calls.{tablePart, statePart, startInto, stepInto, PickOutcome, pickReply, pickFrom}
 use Rattle.executive.specs.Laws.{Begins}
 use Rattle.executive.proofs.Fitting.{Fits, fits-says}
-use Rattle.executive.proofs.PickedBy.{picked-by}
+use Rattle.executive.proofs.Ready.{started-ready}
+use Rattle.executive.proofs.PickedBy.{picked-by, replied}
 use Rattle.demands.specs.Instance.{published, decode}
 use Rattle.demands.specs.Demand2.{Table, Fitting}
 use Rattle.demands.specs.Demand3.{AllAtTheirEnd}
-use Rattle.demands.specs.Ends.{Usable, SomeUnfinished, StepAccepts, SomeAccepted, PickIsAccepted, PickWhileUnfinished, PickAtTheEnd, rowsOf, rowsLeft, NoLongerList, loop, TakesAccepted, EveryLoopEnds, byPick, PickingEnds}
+use Rattle.demands.specs.Ends.{Usable, SomeUnfinished, StepAccepts, StartIsUsable, StepKeepsUsable, LeastLateAccepted, SomeAccepted, PickIsAccepted, PickWhileUnfinished, PickAtTheEnd, rowsOf, rowsLeft, LeftAreRows, NoLongerList, loop, TakesAccepted, EveryLoopEnds, byPick, PickingEnds, StartedEnds}
 use Rattle.demands.proofs.Allowed.{allowed}
 use Rattle.demands.proofs.Rows.{goes-on}
 use Rattle.demands.proofs.Decode.{state-low}
-use Rattle.demands.proofs.Reasons.{some-fails}
+use Rattle.demands.proofs.Step.{low}
 use Rattle.demands.proofs.Demand2.{choice-is-models}
 use Rattle.demands.proofs.Assumed.{assumptions-hold}
 use Rattle.demands.proofs.Call.{ready, ready-table, ready-state, reply-is, was, left-words}
-use Rattle.demands.proofs.Lent.{agents-part, rows-part}
+use Rattle.demands.proofs.Lent.{agents-part, rows-part, pos-part}
 
 total-same : (f g : ℕ → ℕ) (n : ℕ) → ((b : ℕ) → b < n → f b ≡ g b) → total f n ≡ total g n
 unfolding total
@@ -72,20 +73,17 @@ module _ (tb : List ℕ) (table : Table tb) where
       let unended : s .pos < rows tb a = leb-false _ _ live in
       omega arith
 
-  low : {b : ℕ} → b < agents tb → b < 16
-  low h = omega (arith, few tb (table .good))
-
   module _ (st : List ℕ) (state : Fitting tb st) where
     fit : Fits tb st
     fit = fits-says tb st (state .fit)
 
     ready-here : Ready (here st)
     ready-here b real live =
-        let in-words = state-low tb st b (low real) in
+        let in-words = state-low tb st b (low tb st (table .good) real) in
         rw in-words (fit .late b real (leb-false _ _ (rw in-words at live)))
 
     live : (b : ℕ) → b < agents tb → pos st b < rows tb b → leb (rows tb b) (decode tb st .st b .pos) ≡ false
-    live b h l = rw (state-low tb st b (low h)) (lt-leb (rows tb b) (pos st b) l)
+    live b h l = rw (state-low tb st b (low tb st (table .good) h)) (lt-leb (rows tb b) (pos st b) l)
 
     good-accepted : (a t : ℕ) → Good (here st) a t → choiceReply tb st a t ≡ 0
     good-accepted a t g =
@@ -100,11 +98,11 @@ module _ (tb : List ℕ) (table : Table tb) where
     stopped : ((a t : ℕ) → choiceReply tb st a t ≡ 0 → ⊥) → AllAtTheirEnd tb st
     stopped none b h =
         let end = stops-ended {g = here st} windows start ready-here (λ a t g. none a t (good-accepted a t g)) b h in
-        let over : rows tb b ≤ pos st b = leb-true _ _ (rw (state-low tb st b (low h)) at end) in
+        let over : rows tb b ≤ pos st b = leb-true _ _ (rw (state-low tb st b (low tb st (table .good) h)) at end) in
         omega (arith, fit .position b h)
 
     work-is : work before-it (here st) ≡ rowsLeft tb st
-    work-is = total-same _ _ (agents tb) (λ b h. ap (λ (s : Agent). rows tb b - s .pos) (state-low tb st b (low h)))
+    work-is = total-same _ _ (agents tb) (λ b h. ap (λ (s : Agent). rows tb b - s .pos) (state-low tb st b (low tb st (table .good) h)))
 
   -- an accepted choice leaves less to do
   nears : (st : List ℕ) → Fitting tb st → (a t : ℕ) → choiceReply tb st a t ≡ 0 → rowsLeft tb (accepted tb st a t) < rowsLeft tb st
@@ -119,39 +117,35 @@ module _ (tb : List ℕ) (table : Table tb) where
 
   module _ (st : List ℕ) (state : Fitting tb st) where
     some-least : allEnded tb st ≡ false → (a : ℕ) × (a < agents tb) × (hasLeastLate tb st a ≡ true)
-    unfolding allEnded hasLeastLate
+    unfolding allEnded
     some-least e =
         let (b, h, fails) = some-fails (agents tb) _ e in
         ⊎-elim
         (λ none. absurd (true≢false (sym (none b h) ∙ fails)))
-        (λ (a, real, alive, lowest). (
+        (λ (a, real, left, lowest). (
           a,
           real,
-          and-both (unfinished tb st a) (inTime tb st (current tb st a .late)) (not-false _ alive)
-              (time-in tb st (current tb st a .late) (λ c l k. lowest c l (unended c k))),
+          is-least tb st a (below-its-rows tb st a (not-false _ left)) (λ c l k. lowest c l (rw (is-unfinished tb st c k))),
         ))
         (least (λ b. not (unfinished tb st b)) (λ b. current tb st b .late) (agents tb))
-      where
-        unended : (c : ℕ) → pos st c < rows tb c → not (unfinished tb st c) ≡ false
-        unended c k = rw (alive tb st c k)
 
     -- an unfinished agent of the least late may be run at the soonest
-    least-accepted : (a : ℕ) → a < agents tb → hasLeastLate tb st a ≡ true → choiceReply tb st a (soonest tb st a) ≡ 0
-    unfolding hasLeastLate
-    least-accepted a h l =
-        let unended = unended-is tb st a (and-1 (unfinished tb st a) (inTime tb st (current tb st a .late)) l) in
-        let due = in-time tb st (current tb st a .late) (and-2 (unfinished tb st a) (inTime tb st (current tb st a .late)) l) in
-        let own = state-low tb st a (low h) in
+    least-accepted : (a : ℕ) → a < agents tb → pos st a < rows tb a → InTime tb st (current tb st a .late) → choiceReply tb st a (soonest tb st a) ≡ 0
+    least-accepted a h unended due =
+        let own = state-low tb st a (low tb st (table .good) h) in
         let may = least-may (here st) (ready-here st state) windows a h (live st state a h unended) (λ b k living.
-        let other = state-low tb st b (low k) in rw (own, other) (due b k (leb-false _ _ (rw other at living)))) in
+        let other = state-low tb st b (low tb st (table .good) k) in rw (own, other) (due b k (leb-false _ _ (rw other at living)))) in
         good-accepted st state a (soonest tb st a) (subst (Good (here st) a) (ap (λ (s : Agent). max (clock st) (row tb a (s .pos) .early)) own) may)
 
     pick-accepted : allEnded tb st ≡ false → choiceReply tb st (pickedAgent tb st) (soonest tb st (pickedAgent tb st)) ≡ 0
-    unfolding pickedAgent
     pick-accepted e =
         let (a, real, l) = some-least e in
-        let (h, k) = first-below-found (agents tb) (hasLeastLate tb st) a real l in
-        least-accepted (pickedAgent tb st) h k
+        let (h, k) = picked-is tb st a real l in
+        let (unended, due) = least-is tb st (pickedAgent tb st) k in
+        least-accepted (pickedAgent tb st) h unended due
+
+pub least-late-accepted : LeastLateAccepted
+least-late-accepted tb st table state a h unended due = least-accepted tb table st state a h unended due
 
 -- ---- the lent words
 
@@ -166,7 +160,7 @@ module _ (tb st : List ℕ) (usable : Usable tb st) where
   low-lent b h = omega (arith, few rules (usable .0 .good), agents-part tb)
 
   position-part : (b : ℕ) → b < agents tb → pos words b ≡ pos st b
-  position-part b h = getD-take stateWords st (posPlace b) 0 (let l = low-lent b h in omega arith)
+  position-part b h = pos-part st b (low-lent b h)
 
   -- an agent that is unfinished in the lent words is so in the state's own
   unfinished-part : SomeUnfinished tb st → SomeUnfinished rules words
@@ -189,8 +183,8 @@ was-usable : (tb st : List ℕ) (a t : ℕ) → StepAccepts tb st a t → Usable
 was-usable tb st a t e = let (r, c) = was tb st a t e in ((ready-table tb st r, ready-state tb st r), c)
 
 -- and those that it leaves
-still-usable : (tb st : List ℕ) (a t : ℕ) → StepAccepts tb st a t → Usable tb (stepInto tb st a t .state)
-still-usable tb st a t e =
+pub step-keeps-usable : StepKeepsUsable
+step-keeps-usable tb st a t e =
     let ((table, state), c) = was-usable tb st a t e in
     (table, subst (Fitting (tablePart tb)) (sym (left-words tb st a t e)) (choice-is-models (tablePart tb) (statePart st) table state a t .state c))
 
@@ -198,7 +192,7 @@ step-nears : (tb st : List ℕ) (a t : ℕ) → StepAccepts tb st a t → rowsLe
 step-nears tb st a t e =
     let (usable, c) = was-usable tb st a t e in
     let less = nears (tablePart tb) (usable .0) (statePart st) (usable .1) a t c in
-    let new = left-part tb (stepInto tb st a t .state) (still-usable tb st a t e) in
+    let new = left-part tb (stepInto tb st a t .state) (step-keeps-usable tb st a t e) in
     let same = ap (rowsLeft (tablePart tb)) (left-words tb st a t e) in
     omega (arith, less, new, same, left-part tb st usable)
 
@@ -211,10 +205,6 @@ some-accepted tb st usable some =
 -- ---- pick
 
 module _ (tb st : List ℕ) where
-  replied : (r : ℕ) → pickReply tb st ≡ r → pickFrom tb st .reply ≡ r
-  replied zero e = ap (λ (o : PickOutcome). o .reply) (picked-by tb st 0 e)
-  replied (suc r) e = ap (λ (o : PickOutcome). o .reply) (picked-by tb st (suc r) e)
-
   -- the tests that it passes
   passes : pickReply tb st ≡ 0 → Usable tb st × (allEnded (tablePart tb) (statePart st) ≡ false)
   unfolding pickReply
@@ -242,35 +232,41 @@ pick-is-accepted tb st e = go (pickReply tb st) refl
     go (suc r) z = absurd (omega (arith, e, replied tb st (suc r) z))
 
 pub pick-while-unfinished : PickWhileUnfinished
-unfolding allEnded
 pick-while-unfinished tb st usable some =
     let (b, h, l) = unfinished-part tb st usable some in
-    replied tb st 0 (by-end tb st usable false (not-all-below (agents (tablePart tb)) _ b h (rw (alive (tablePart tb) (statePart st) b l))))
+    replied tb st 0 (by-end tb st usable false (some-left (tablePart tb) (statePart st) b h l))
 
 pub pick-at-the-end : PickAtTheEnd
-unfolding allEnded unfinished
-pick-at-the-end tb st usable end = replied tb st 11 (by-end tb st usable true (all-below (agents (tablePart tb)) _ ended))
+pick-at-the-end tb st usable = (told (allEnded rules words) refl, λ end. replied tb st 11 (by-end tb st usable true (all-over rules words (over end))))
   where
-    ended : (b : ℕ) → b < agents (tablePart tb) → not (unfinished (tablePart tb) (statePart st) b) ≡ true
-    ended b h =
+    rules : List ℕ
+    rules = tablePart tb
+
+    words : List ℕ
+    words = statePart st
+
+    -- the lent words' counts and positions, in the state's own
+    over : AllAtTheirEnd tb st → (b : ℕ) → b < agents rules → rows rules b ≤ pos words b
+    over end b h =
         let k : b < agents tb = omega (arith, agents-part tb) in
-        rw (le-ltb (pos (statePart st) b) (rows (tablePart tb) b) (omega (arith, end b k, position-part tb st usable b k, rows-part tb b (low-lent tb st usable b k))))
+        omega (arith, end b k, position-part tb st usable b k, rows-part tb b (low-lent tb st usable b k))
+
+    told : (v : Bool) → allEnded rules words ≡ v → pickFrom tb st .reply ≡ 11 → AllAtTheirEnd tb st
+    told true e _ = ended-part tb st usable (λ b h. omega (arith, over-all rules words e b h, fit rules (usable .0) words (usable .1) .position b h))
+    told false e r = absurd (omega (arith, r, replied tb st 0 (by-end tb st usable false e)))
 
 -- ---- lists and loops
 
-fewer : (tb st : List ℕ) → rowsLeft tb st ≤ rowsOf tb
-fewer tb st = total-le (λ b. rows tb b - pos st b) (rows tb) (λ b. omega arith) (agents tb)
+pub left-are-rows : LeftAreRows
+left-are-rows tb st = total-le (λ b. rows tb b - pos st b) (rows tb) (λ b. omega arith) (agents tb)
 
 pub no-longer-list : NoLongerList
-no-longer-list tb st cs k begins = (count st cs k begins, fewer tb st)
-  where
-    count : (st cs : List ℕ) (k : ℕ) → Begins tb st cs k → k ≤ rowsLeft tb st
-    count st cs zero b = zero-le
-    count st [] (suc k) b = absurd b
-    count st (a ∷ []) (suc k) b = absurd b
-    count st (a ∷ t ∷ cs) (suc k) (e, b) = omega (arith, count (stepInto tb st a t .state) cs k b, step-nears tb st a t e)
+no-longer-list tb st cs zero b = zero-le
+no-longer-list tb st [] (suc k) b = absurd b
+no-longer-list tb st (a ∷ []) (suc k) b = absurd b
+no-longer-list tb st (a ∷ t ∷ cs) (suc k) (e, b) = omega (arith, no-longer-list tb (stepInto tb st a t .state) cs k b, step-nears tb st a t e)
 
-module _ (choose : ℕ → List ℕ → ℕ × ℕ) (tb : List ℕ) (takes : TakesAccepted choose tb) where
+module _ (choose : ℕ → List ℕ → ℕ × ℕ) (tb : List ℕ) where
   -- a turn, by its reply
   turn : (n : ℕ) (st : List ℕ) (r : ℕ) → stepInto tb st (choose n st .0) (choose n st .1) .reply ≡ r
       → loop choose tb (suc n) st ≡ elim r as (λ _. List ℕ) [ zero ↦ loop choose tb n (stepInto tb st (choose n st .0) (choose n st .1) .state) | suc r ↦ st ]
@@ -281,11 +277,11 @@ module _ (choose : ℕ → List ℕ → ℕ × ℕ) (tb : List ℕ) (takes : Tak
   none-accepted st usable none =
       ended-part tb st usable (stopped (tablePart tb) (usable .0) (statePart st) (usable .1) (λ a t c. none a t (accepts tb st usable a t c)))
 
-  ends : (n : ℕ) (st : List ℕ) → Usable tb st → rowsLeft tb st ≤ n → AllAtTheirEnd tb (loop choose tb n st)
+  ends : (n : ℕ) (st : List ℕ) → TakesAccepted choose tb n st → Usable tb st → rowsLeft tb st ≤ n → AllAtTheirEnd tb (loop choose tb n st)
   unfolding loop
-  ends zero st usable few = none-accepted st usable (λ a t e. omega (arith, step-nears tb st a t e))
-  ends (suc n) st usable few =
-      go (stepInto tb st a t .reply) refl (λ e. ends n (stepInto tb st a t .state) (still-usable tb st a t e) (omega (arith, step-nears tb st a t e)))
+  ends zero st takes usable few = none-accepted st usable (λ a t e. omega (arith, step-nears tb st a t e))
+  ends (suc n) st takes usable few =
+      go (stepInto tb st a t .reply) refl (λ e. ends n (stepInto tb st a t .state) (takes .1) (step-keeps-usable tb st a t e) (omega (arith, step-nears tb st a t e)))
     where
       a : ℕ
       a = choose n st .0
@@ -296,18 +292,32 @@ module _ (choose : ℕ → List ℕ → ℕ × ℕ) (tb : List ℕ) (takes : Tak
       go : (r : ℕ) → stepInto tb st a t .reply ≡ r → (StepAccepts tb st a t → AllAtTheirEnd tb (loop choose tb n (stepInto tb st a t .state)))
           → AllAtTheirEnd tb (loop choose tb (suc n) st)
       go zero e rest = subst (AllAtTheirEnd tb) (sym (turn n st 0 e)) (rest e)
-      go (suc r) e rest = subst (AllAtTheirEnd tb) (sym (turn n st (suc r) e)) (none-accepted st usable (λ b u y. omega (arith, takes n st b u y, e)))
+      go (suc r) e rest = subst (AllAtTheirEnd tb) (sym (turn n st (suc r) e)) (none-accepted st usable (λ b u y. omega (arith, takes .0 b u y, e)))
 
 pub every-loop-ends : EveryLoopEnds
-every-loop-ends choose tb st takes usable n few = ends choose tb takes n st usable few
+every-loop-ends choose tb st n takes usable few = ends choose tb n st takes usable few
+
+-- ---- the loop that goes by `pick`
+
+picks-accepted : (tb : List ℕ) (n : ℕ) (st : List ℕ) → TakesAccepted (byPick tb) tb n st
+picks-accepted tb zero st = tt
+picks-accepted tb (suc n) st = (taken, picks-accepted tb n _)
+  where
+    taken : (a t : ℕ) → StepAccepts tb st a t → StepAccepts tb st (pickFrom tb st .agent) (pickFrom tb st .time)
+    taken a t e =
+        let (usable, c) = was-usable tb st a t e in
+        let may = permitted (tablePart tb) (statePart st) a t c in
+        let h : a < agents tb = omega (arith, may .agent, agents-part tb) in
+        let l : pos st a < rows tb a = omega (arith, may .unended, position-part tb st usable a h, rows-part tb a (low-lent tb st usable a h)) in
+        pick-is-accepted tb st (pick-while-unfinished tb st usable (a, h, l))
 
 pub picking-ends : PickingEnds
-picking-ends tb st usable = every-loop-ends (byPick tb) tb st takes usable (rowsOf tb) (fewer tb st)
-  where
-    takes : TakesAccepted (byPick tb) tb
-    takes n w a t e =
-        let (ok, c) = was-usable tb w a t e in
-        let may = permitted (tablePart tb) (statePart w) a t c in
-        let h : a < agents tb = omega (arith, may .agent, agents-part tb) in
-        let l : pos w a < rows tb a = omega (arith, may .unended, position-part tb w ok a h, rows-part tb a (low-lent tb w ok a h)) in
-        pick-is-accepted tb w (pick-while-unfinished tb w ok (a, h, l))
+picking-ends tb st usable = every-loop-ends (byPick tb) tb st (rowsOf tb) (picks-accepted tb (rowsOf tb) st) usable (left-are-rows tb st)
+
+pub start-is-usable : StartIsUsable
+start-is-usable tb st e =
+    let r = started-ready tb st e in
+    (ready-table tb (startInto tb st .state) r, ready-state tb (startInto tb st .state) r)
+
+pub started-ends : StartedEnds
+started-ends tb st e = picking-ends tb (startInto tb st .state) (start-is-usable tb st e)

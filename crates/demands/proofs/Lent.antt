@@ -33,12 +33,12 @@ use Rattle.demands.proofs.Behaves.{run-is-models}
 use Rattle.demands.proofs.Demand3.{deterministic-from, same-ends-from}
 
 -- an agent in words with others behind them
-agent-part : (st : List ℕ) (b : ℕ) → stateWords ≤ length st → b < 16 → agentAt (statePart st) b ≡ agentAt st b
-agent-part st b long h = λ k. record { pos = position k; regs = registers k }
-  where
-    position : pos (statePart st) b ≡ pos st b
-    position = getD-take stateWords st (posPlace b) 0 (omega arith)
+pub pos-part : (st : List ℕ) (b : ℕ) → b < 16 → pos (statePart st) b ≡ pos st b
+pos-part st b h = getD-take stateWords st (posPlace b) 0 (omega arith)
 
+agent-part : (st : List ℕ) (b : ℕ) → stateWords ≤ length st → b < 16 → agentAt (statePart st) b ≡ agentAt st b
+agent-part st b long h = λ k. record { pos = pos-part st b h k; regs = registers k }
+  where
     registers : take 4 (drop (regPlace b) (statePart st)) ≡ take 4 (drop (regPlace b) st)
     registers = part-same (statePart st) st 4 (regPlace b) (regPlace b) (simp length-take (omega arith)) (omega arith)
         (λ i l. getD-take stateWords st (regPlace b + i) 0 (omega arith))

@@ -10,7 +10,7 @@ use borrow.Author.Tests.{ltb-true, ltb-false, leb-true, leb-false, lt-leb, not-t
 use Rattle.tables.specs.Basics.{Rule, _⇒_, first, allBelow}
 use Rattle.tables.specs.Layout.{agents, rows}
 use Rattle.tables.specs.Table.{goodTable}
-use Rattle.tables.proofs.Tests.{and-both}
+use Rattle.tables.proofs.Passed.{some-fails}
 use Rattle.choices.specs.State.{clock, pos}
 use Rattle.choices.specs.Fit.{current, inTime, unfinished}
 use Rattle.choices.specs.Step.{choiceReply}
@@ -19,17 +19,6 @@ use Rattle.demands.specs.Reasons.{Overdue, Reason, Reply, First, reasons
 use Rattle.demands.specs.Instance.{decode}
 use Rattle.demands.proofs.Decode.{state-low}
 use Rattle.demands.proofs.Step.{low}
-
--- a test that does not hold of each number below n fails at one of them
-pub some-fails : (n : ℕ) (f : ℕ → Bool) → allBelow n f ≡ false → (b : ℕ) × (b < n) × (f b ≡ false)
-unfolding allBelow
-some-fails zero f e = absurd (true≢false e)
-some-fails (suc n) f e = go (allBelow n f) (f n) (some-fails n f) refl refl
-  where
-    go : (v w : Bool) → (allBelow n f ≡ false → (b : ℕ) × (b < n) × (f b ≡ false)) → allBelow n f ≡ v → f n ≡ w → (b : ℕ) × (b < suc n) × (f b ≡ false)
-    go v false less p q = (n, omega arith, q)
-    go false true less p q = let (b, h, x) = less p in (b, omega arith, x)
-    go true true less p q = absurd (true≢false (sym (and-both (allBelow n f) (f n) p q) ∙ e))
 
 -- Tests that stand for reasons, one by one: each counts only where the tests before it have failed.
 data Tested : List Rule → List Reason → Type 1 where

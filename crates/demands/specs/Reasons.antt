@@ -35,7 +35,7 @@ module _ {T : Types} where
   abbrev pub Overdue : SystemState T → ℕ → Type 0
   Overdue g t = (b : ℕ) × (b < agents) × (ended b (g .st b) ≡ false) × (instrOf T b (g .st b) .late < t)
 
-  -- 01's replies 10 to 15, in 01's order; 14 is reserved, since T-04 showed that its reason cannot be met (specs/Ends).
+  -- 01's replies 10 to 15, in 01's order; 14 is reserved: its reason cannot be met in a state that fits its table (specs/Ends).
   abbrev pub reasons : SystemState T → (a t : ℕ) → List Reason
   reasons g a t =
       ((agents ≤ a) ⇒ 10)  -- no such agent

@@ -7,7 +7,7 @@ use native.Mathlib.Omega.{arith}
 use Rattle.tables.specs.Paths.{GoesOn, Path, here, on}
 use Rattle.tables.proofs.Good.{few, few-rows}
 use Rattle.tables.proofs.Paths.{windows-climb}
-use Rattle.executive.specs.Laws.{BestIsTaken, NoneIsTaken, NextDepends, AcceptedExactly, CanGoExactly, StartFits, StepKeepsFit, GoesOnExactly, StepGoesOn, RunIsPath, EarlierNeverComes, SendIsSent, RunIsSteps, RunCounts}
+use Rattle.executive.specs.Laws.{BestIsTaken, NoneIsTaken, NextDepends, AcceptedExactly, CanGoExactly, PickedExactly, FourteenIsReserved, StartFits, StepKeepsFit, GoesOnExactly, StepGoesOn, RunIsPath, EarlierNeverComes, SendIsSent, RunIsSteps, RunCounts}
 use Rattle.choices.specs.State.{pos}
 use Rattle.choices.specs.Step.{choiceReply, accepted}
 use Rattle.choices.specs.Pick.{soonest}
@@ -23,6 +23,8 @@ use Rattle.executive.proofs.OneByOne.{run-is-steps as steps}
 use Rattle.executive.proofs.Counted.{run-count, run-few}
 use Rattle.executive.proofs.Taken.{best-taken, best-none}
 use Rattle.executive.proofs.Depends.{depends}
+use Rattle.executive.proofs.PickedBy.{picked-first, first-picked}
+use Rattle.executive.proofs.Reserved.{step-not, run-not, pick-not}
 
 pub best-is-taken : BestIsTaken
 best-is-taken = best-taken
@@ -39,6 +41,12 @@ accepted-exactly tb st a t = (allowed tb st a t, allowed-reply tb st a t)
 
 pub can-go-exactly : CanGoExactly
 can-go-exactly tb st a low = (λ h. (soonest tb st a, goes-soonest tb st a low h), λ w. can-go tb st a (w .0) (w .1))
+
+pub picked-exactly : PickedExactly
+picked-exactly tb st a = (picked-first tb st a, first-picked tb st a)
+
+pub fourteen-is-reserved : FourteenIsReserved
+fourteen-is-reserved = (step-not, run-not, pick-not)
 
 pub start-fits-its-table : StartFits
 start-fits-its-table tb good long = record {

@@ -10,6 +10,7 @@ pub mod Taken
 pub mod Depends
 pub mod Numbers
 pub mod Effects
+pub mod Reserved
 pub mod Laws
 pub mod Outcomes
 pub mod PickedBy

@@ -1,9 +1,18 @@
--- What `pick` answers, by its reply: agent and time are 0 where it refuses. Assumes nothing.
+-- What `pick` answers, by its reply: agent and time are 0 where it refuses; and which agent it is. Assumes nothing.
 use mathlib.Core.Path.{_≡_, refl, sym, ap, ap₂, _∙_}
 use mathlib.Core.List.{List}
-use Prim.Native.Nat.{ℕ, zero, suc}
-use Rattle.choices.specs.Pick.{soonest, pickedAgent}
+use mathlib.Core.Logic.{by-cases}
+use mathlib.Core.Bool.{Bool, true, false, true≢false}
+use Prim.Native.Nat.{ℕ, zero, suc, _<_}
+use native.Mathlib.Decide.{decLt}
+use native.Mathlib.Omega.{arith}
+use Rattle.tables.specs.Layout.{agents}
+use Rattle.tables.proofs.FirstBelow.{first-below-is, first-below-before, first-below-holds}
+use Rattle.choices.specs.Fit.{current}
+use Rattle.choices.specs.Pick.{soonest, hasLeastLate, pickedAgent}
+use Rattle.choices.proofs.Pick.{is-least, least-is}
 use Rattle.executive.specs.Calls.{tablePart, statePart, PickOutcome, picked, pickReply, pickFrom}
+use Rattle.executive.specs.Laws.{LeastLate}
 
 module _ (tb st : List ℕ) where
   abbrev agent : ℕ
@@ -26,3 +35,38 @@ module _ (tb st : List ℕ) where
 
   pub pick-goes : pickReply tb st ≡ 0 → (a t : ℕ) → a ≡ agent → t ≡ soonest (tablePart tb) (statePart st) a → picked 0 a t ≡ pickFrom tb st
   pick-goes h a t x y = ap₂ (picked 0) x (y ∙ ap (soonest (tablePart tb) (statePart st)) x) ∙ sym (picked-by 0 h)
+
+  pub replied : (r : ℕ) → pickReply tb st ≡ r → pickFrom tb st .reply ≡ r
+  replied zero e = ap (λ (o : PickOutcome). o .reply) (picked-by 0 e)
+  replied (suc r) e = ap (λ (o : PickOutcome). o .reply) (picked-by (suc r) e)
+
+-- ---- which agent it is
+
+module _ (tb st : List ℕ) (a : ℕ) where
+  least-late : hasLeastLate tb st a ≡ true → a < agents tb → ((b : ℕ) → b < a → hasLeastLate tb st b ≡ false) → LeastLate tb st a
+  least-late l low before =
+      let (live, due) = least-is tb st a l in
+      record {
+        agent = low;
+        unended = live;
+        least = due;
+        lowest = λ b h k. by-cases (decLt (current tb st a .late) (current tb st b .late)) (λ less. less)
+            (λ n. absurd (true≢false (sym (is-least tb st b k (λ c m i. let d = due c m i in omega arith)) ∙ before b h)));
+      }
+
+  pub picked-first : (pickedAgent tb st ≡ a) × (a < agents tb) → LeastLate tb st a
+  unfolding pickedAgent
+  picked-first (e, low) =
+      least-late (rw (sym e) (first-below-holds (agents tb) (hasLeastLate tb st) (rw e low))) low
+      (λ b h. first-below-before (agents tb) (hasLeastLate tb st) b (rw e h))
+
+  pub first-picked : LeastLate tb st a → (pickedAgent tb st ≡ a) × (a < agents tb)
+  unfolding pickedAgent
+  first-picked l = (
+    first-below-is (agents tb) (hasLeastLate tb st) a (l .agent) (is-least tb st a (l .unended) (l .least)) (λ b h. go b h (hasLeastLate tb st b) refl),
+    l .agent,
+  )
+    where
+      go : (b : ℕ) → b < a → (v : Bool) → hasLeastLate tb st b ≡ v → v ≡ false
+      go b h false e = refl
+      go b h true e = let (live, due) = least-is tb st b e in absurd (omega (arith, due a (l .agent) (l .unended), l .lowest b h live))

@@ -1,6 +1,6 @@
 -- Words that a step takes, a good table and a state that fits it: `start` and each accepted step leave such, so that no step after them is refused
 -- with 9. Assumes nothing.
-use mathlib.Core.Path.{_≡_, refl, ap, _∙_}
+use mathlib.Core.Path.{_≡_, refl, sym, ap, _∙_}
 use mathlib.Core.Logic.{_≢_}
 use mathlib.Core.Bool.{Bool, true, false, not, cond}
 use mathlib.Core.List.{List, _++_}
@@ -122,6 +122,18 @@ module _ (tb : List ℕ) where
     unfolding startInto
     started h =
         ap (λ (x : ℕ). elim x as (λ _. Outcome) [ zero ↦ outcome 0 (startWords (tablePart tb) ++ pastState st) | suc r ↦ outcome (suc r) st ] .state) h
+
+    started-reply : startInto tb st .reply ≡ startReply tb st
+    unfolding startInto
+    started-reply = go (startReply tb st)
+      where
+        go : (r : ℕ) → (elim r as (λ _. Outcome) [ zero ↦ outcome 0 (startWords (tablePart tb) ++ pastState st) | suc r ↦ outcome (suc r) st ]) .reply ≡ r
+        go zero = refl
+        go (suc r) = refl
+
+    -- the words that `start` leaves are such
+    pub started-ready : startInto tb st .reply ≡ 0 → Ready (startInto tb st .state)
+    started-ready e = let h = sym started-reply ∙ e in rw (started h) (start-ready st h)
 
     pub may-start : tableWords ≤ length tb → stateWords ≤ length st → goodTable (tablePart tb) ≡ true → startReply tb st ≡ 0
     unfolding startReply first

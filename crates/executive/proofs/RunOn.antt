@@ -1,4 +1,4 @@
--- A run worked out with the registers beside the state: what one choice makes of what is left to run. Assumes nothing.
+-- A run worked out with the registers and the lates beside the state: what one choice makes of what is left to run, and of the lates. Assumes nothing.
 use mathlib.Core.Path.{_≡_, refl, sym, ap, ap₂, _∙_}
 use mathlib.Core.Bool.{true, cond}
 use mathlib.Core.List.{List, [], _∷_}
@@ -163,11 +163,12 @@ count-bound tb good from long fit cs st ds n e =
     let q = ap (λ (o : RunOutcome). o .count) e in
     omega arith
 
--- what a loop over choices holds besides what is left to do, L: the lates are those of the agents' current rows, and d is above none of them
+-- ---- what a loop over choices holds besides L, what is left to do: the lates of the agents' current rows, and a deadline d that is above none of them
+
 pub record Turning (L : Type 0) (tb st ls : List ℕ) (d : ℕ) : Type 0 where
   pub left : L
   pub lates : Lates tb st ls
-  pub rises : aboveNone ls d ≡ true
+  pub in-time : aboveNone ls d ≡ true
 
 -- ---- one turn of the loop over the choices cs
 

@@ -126,7 +126,7 @@ pub record PickOutcome : Type 0 where
 abbrev pub picked : (reply agent time : ℕ) → PickOutcome
 picked r a t = record { reply = r; agent = a; time = t }
 
--- "Refusals 1, 8, 9, then 11 where all agents have ended"
+-- 1, 8, 9, then 11 where all agents have ended
 unfoldable pub pickReply : (tb st : List ℕ) → ℕ
 pickReply tb st =
     first
@@ -137,7 +137,7 @@ pickReply tb st =
     ∷ (allEnded (tablePart tb) (statePart st) ⇒ 11)
     ∷ [])
 
--- "agent and time are 0 with a refusal"
+-- agent and time are 0 with a refusal
 unfoldable pub pickFrom : (tb st : List ℕ) → PickOutcome
 pickFrom tb st =
     elim (pickReply tb st) [

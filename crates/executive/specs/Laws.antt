@@ -1,6 +1,6 @@
 -- Laws that show the definitions to mean what 01 says: each as a statement, in 01's words. proofs/Laws.antt proves each under its own name. Assumes nothing.
 use mathlib.Core.Path.{_≡_}
-use mathlib.Core.Logic.{_↔_, _⊎_}
+use mathlib.Core.Logic.{_↔_, _⊎_, _≢_}
 use mathlib.Core.Bool.{true}
 use mathlib.Core.List.{List, [], _∷_}
 use Prim.Native.Nat.{ℕ, zero, suc, _+_, _≤_, _<_}
@@ -19,10 +19,10 @@ use Rattle.choices.specs.Messages.{visible, best}
 use Rattle.choices.specs.Effect.{after}
 use Rattle.choices.specs.Fit.{current, fits}
 use Rattle.choices.specs.Step.{choiceReply, Allowed, accepted}
-use Rattle.choices.specs.Pick.{canGo}
+use Rattle.choices.specs.Pick.{canGo, pickedAgent}
 use Rattle.executive.specs.Effects.{heldX}
 use Rattle.executive.specs.Run.{RunOutcome, ended, runFrom}
-use Rattle.executive.specs.Calls.{startInto, stepInto, runRefusal, runInto}
+use Rattle.executive.specs.Calls.{startInto, stepInto, runRefusal, runInto, pickFrom}
 
 -- ---- the message that a RECV takes
 
@@ -79,6 +79,27 @@ AcceptedExactly = (tb st : List ℕ) (a t : ℕ) → choiceReply tb st a t ≡ 0
 -- an agent can go exactly where some time would be accepted for it, whether or not the state fits
 abbrev pub CanGoExactly : Type 0
 CanGoExactly = (tb st : List ℕ) (a : ℕ) → a < agents tb → canGo tb st a ≡ true ↔ ((t : ℕ) × Allowed tb st a t)
+
+-- ---- what is picked
+
+-- the unfinished agent of the least late, of equal lates the lowest number
+pub record LeastLate (tb st : List ℕ) (a : ℕ) : Type 0 where
+  pub agent : a < agents tb
+  pub unended : pos st a < rows tb a
+  pub least : (b : ℕ) → b < agents tb → pos st b < rows tb b → current tb st a .late ≤ current tb st b .late
+  pub lowest : (b : ℕ) → b < a → pos st b < rows tb b → current tb st a .late < current tb st b .late
+
+-- it is the one that is picked, and no other
+abbrev pub PickedExactly : Type 0
+PickedExactly = (tb st : List ℕ) (a : ℕ) → ((pickedAgent tb st ≡ a) × (a < agents tb)) ↔ LeastLate tb st a
+
+-- ---- 14
+
+-- reserved: none of the calls that take or give a choice replies with it
+abbrev pub FourteenIsReserved : Type 0
+FourteenIsReserved = ((tb st : List ℕ) (a t : ℕ) → stepInto tb st a t .reply ≢ 14)
+    × ((tb st cs : List ℕ) → runInto tb st cs .reply ≢ 14)
+    × ((tb st : List ℕ) → pickFrom tb st .reply ≢ 14)
 
 -- ---- the fit
 

@@ -36,3 +36,24 @@ first-below-found (suc n) f i h t = go (f 0) refl i h t (first-below-found n (λ
     go true e j l y next = let p = found n f true e in (rw p (omega arith), rw p e)
     go false e zero l y next = absurd (false≢true (sym e ∙ y))
     go false e (suc j) l y next = let p = found n f false e in let (low, holds) = next j (le-of-suc-le-suc l) y in (rw p (suc-le-suc low), rw p holds)
+
+-- and of none before it
+pub first-below-before : (n : ℕ) (f : ℕ → Bool) (i : ℕ) → i < firstBelow n f → f i ≡ false
+unfolding firstBelow
+first-below-before zero f i h = absurd (not-suc-le-zero h)
+first-below-before (suc n) f i h = go (f 0) refl i h (first-below-before n (λ j. f (suc j)))
+  where
+    go : (b : Bool) → f 0 ≡ b → (j : ℕ) → j < firstBelow (suc n) f → ((k : ℕ) → k < firstBelow n (λ j. f (suc j)) → f (suc k) ≡ false) → f j ≡ false
+    go true e j l next = absurd (not-suc-le-zero (rw (found n f true e) at l))
+    go false e zero l next = e
+    go false e (suc j) l next = next j (le-of-suc-le-suc (rw (found n f false e) at l))
+
+-- where it is below n, the test holds of it
+pub first-below-holds : (n : ℕ) (f : ℕ → Bool) → firstBelow n f < n → f (firstBelow n f) ≡ true
+unfolding firstBelow
+first-below-holds zero f h = absurd (not-suc-le-zero h)
+first-below-holds (suc n) f h = go (f 0) refl (first-below-holds n (λ j. f (suc j)))
+  where
+    go : (b : Bool) → f 0 ≡ b → (firstBelow n (λ j. f (suc j)) < n → f (suc (firstBelow n (λ j. f (suc j)))) ≡ true) → f (firstBelow (suc n) f) ≡ true
+    go true e next = let p = found n f true e in rw p e
+    go false e next = let p = found n f false e in rw p (next (le-of-suc-le-suc (rw p at h)))

@@ -1,14 +1,16 @@
 -- What a passed test says, and back: each test of a list, each number of a range, each rule of a first refusal. Assumes nothing.
-use mathlib.Core.Path.{_≡_, refl, sym, ap, _∙_}
-use mathlib.Core.Bool.{Bool, true, false, _&&_, false≢true}
+use mathlib.Core.Path.{_≡_, refl, sym, ap, ap₂, _∙_}
+use mathlib.Core.Bool.{Bool, true, false, _&&_, false≢true, true≢false}
 use mathlib.Core.List.{List, [], _∷_}
-use Prim.Native.Nat.{ℕ, zero, suc, _<_}
+use Prim.Native.Nat.{ℕ, zero, suc, _+_, _≤_, _<_}
 use native.Mathlib.Omega.{arith}
 use native.Mathlib.Nat.{not-suc-le-zero}
+use native.Mathlib.Decide.{ℕ-discrete}
+use native.Mathlib.Numerals.{add-one}
 use lib.Dec.{T, eqb, ltb, ltb→lt}
 use lib.ListN.{getD}
 use borrow.Author.Tests.{eqb-true, eqb-false, lt-ltb, le-ltb, le-leb, lt-leb, eq-eqb, ne-eqb}
-use Rattle.tables.proofs.Tests.{and-both, not-t, not-f}
+use Rattle.tables.proofs.Tests.{and-both, and-yes, not-t, not-f}
 use Rattle.tables.specs.Basics.{every, allBelow, first, _⇒_, Rule}
 
 pub and-1 : (a b : Bool) → (a && b) ≡ true → a ≡ true
@@ -72,6 +74,38 @@ not-all-below n f i l h = go (allBelow n f) refl
     go : (b : Bool) → allBelow n f ≡ b → b ≡ false
     go true e = absurd (false≢true (sym h ∙ below n f e i l))
     go false e = refl
+
+-- one number more
+pub below-suc : (n : ℕ) (f : ℕ → Bool) → allBelow (n + 1) f ≡ (allBelow n f && f n)
+unfolding allBelow
+below-suc n f = rw (add-one n)
+
+-- a test that holds from n on
+pub below-more : (n m : ℕ) (f : ℕ → Bool) → n ≤ m → ((b : ℕ) → n ≤ b → b < m → f b ≡ true) → allBelow m f ≡ allBelow n f
+unfolding allBelow
+below-more n zero f h k = let e : n ≡ 0 = omega arith in rw e
+below-more n (suc m) f h k = go (ℕ-discrete n (suc m)) (λ l. below-more n m f l (λ b u v. k b u (omega arith)))
+  where
+    go : Dec (n ≡ suc m) → (n ≤ m → allBelow m f ≡ allBelow n f) → allBelow (suc m) f ≡ allBelow n f
+    go (yes e) rest = rw e
+    go (no d) rest = and-yes (allBelow m f) (f m) (k m (omega arith) (omega arith)) ∙ rest (omega arith)
+
+-- two tests of one answer
+pub below-same : (n : ℕ) (f g : ℕ → Bool) → ((i : ℕ) → i < n → f i ≡ g i) → allBelow n f ≡ allBelow n g
+unfolding allBelow
+below-same zero f g h = refl
+below-same (suc n) f g h = ap₂ _&&_ (below-same n f g (λ i l. h i (omega arith))) (h n (omega arith))
+
+-- a test that does not hold of each number below n fails at one of them
+pub some-fails : (n : ℕ) (f : ℕ → Bool) → allBelow n f ≡ false → (b : ℕ) × (b < n) × (f b ≡ false)
+unfolding allBelow
+some-fails zero f e = absurd (true≢false e)
+some-fails (suc n) f e = go (allBelow n f) (f n) (some-fails n f) refl refl
+  where
+    go : (v w : Bool) → (allBelow n f ≡ false → (b : ℕ) × (b < n) × (f b ≡ false)) → allBelow n f ≡ v → f n ≡ w → (b : ℕ) × (b < suc n) × (f b ≡ false)
+    go v false less p q = (n, omega arith, q)
+    go false true less p q = let (b, h, x) = less p in (b, omega arith, x)
+    go true true less p q = absurd (true≢false (sym (and-both (allBelow n f) (f n) p q) ∙ e))
 
 -- ---- the first of several refusals
 

@@ -1,4 +1,4 @@
-// The numbers of the replies, in one place for every crate, by the names of the header.
+// The numbers of the replies, in one place for every crate, by the names of the header. 14 is reserved, and has none: no call gives it.
 
 pub const ACCEPTED: u32 = 0;
 // A table, state or output buffer is too short.
@@ -28,7 +28,6 @@ pub const TIME_BELOW_CLOCK: u32 = 12;
 
 pub const TIME_BELOW_EARLY: u32 = 13;
 
-// 14 is reserved: no call gives it.
 pub const TIME_ABOVE_LATE: u32 = 15;
 
 pub const ODD_CHOICES: u32 = 16;

@@ -36,7 +36,7 @@ loop-holds c =
         ends = refl;
       };
       lates = c .load-lates .ensures;
-      rises = zero-above-none _;
+      in-time = zero-above-none _;
     }
 
 mul-a : tie.Need-mul-a Inv-loop μ-loop
@@ -58,7 +58,7 @@ slice-aggregate-deadline-for : tie.Need-slice-aggregate-deadline-for Inv-loop μ
 slice-aggregate-deadline-for c = search needs
 
 deadline-for-requires : tie.Need-deadline-for-requires Inv-loop μ-loop
-deadline-for-requires c κs = (c .before .before .before .before .loop .inv .lates .size, c .before .before .before .before .loop .inv .rises)
+deadline-for-requires c κs = (c .before .before .before .before .loop .inv .lates .size, c .before .before .before .before .loop .inv .in-time)
 
 choice-reply-requires : tie.Need-choice-reply-requires Inv-loop μ-loop
 choice-reply-requires c κs =
@@ -171,7 +171,7 @@ loop-again c =
     record {
       left = turn-goes (g .args .table .now) (g .pre .2) from (whole-length (g .args .state .now) (g .args .regs) (g .pre .1)) (g .pre .4) (g .args .choices .now) (g .pre .3) (l .state) (l .all) (l .count) (l .i) (l .inv .left) (c .before .before .before .before .before .before .before .before .before .before .before .before .before .before .loop-test .taken) c0 _ _ made;
       lates = lates-after (g .args .table .now) (l .state) (l .all) _ _ _ _ made (l .inv .left .long) (l .inv .left .wide) low (l .lates) (l .inv .lates) _ (c .late-at .ensures);
-      rises = deadline-after (g .args .table .now) (l .state) (l .all) _ _ _ _ made (l .inv .left .long) (l .inv .left .wide) low (g .pre .2) c0 (l .lates) (l .inv .lates) _ (c .before .before .before .before .before .before .before .before .before .before .deadline-for .ensures .1) _ (c .late-at .ensures);
+      in-time = deadline-after (g .args .table .now) (l .state) (l .all) _ _ _ _ made (l .inv .left .long) (l .inv .left .wide) low (g .pre .2) c0 (l .lates) (l .inv .lates) _ (c .before .before .before .before .before .before .before .before .before .before .deadline-for .ensures .1) _ (c .late-at .ensures);
     }
 
 store-registers-requires-2 : tie.Need-store-registers-requires-2 Inv-loop μ-loop

@@ -1,4 +1,4 @@
--- `trace_steps` meets its contract. The invariant is `Going`: what is left of the output, put where the step lines end, makes the whole; the lates are those of
+-- `trace_steps` meets its contract. The invariant is `Turning (Going ..)`: what is left of the output, put where the step lines end, makes the whole; the lates are those of
 -- the agents' current rows, and the deadline is above none of them. Assumes nothing.
 use native.Mathlib.Omega.{arith}
 use borrow.Author.Needs.{needs}
@@ -81,7 +81,7 @@ loop-holds c =
     record {
       left = begin _ _ _ _ _ (g .pre .1) (g .pre .0) (g .pre .2) (c .before .before .before .before .before .put-start .ensures) (c .before .before .load-registers .ensures) (search needs);
       lates = c .load-lates .ensures;
-      rises = zero-above-none _;
+      in-time = zero-above-none _;
     }
 
 add-field : tie.Need-add-field Inv-loop μ-loop
@@ -100,7 +100,7 @@ slice-aggregate-deadline-for : tie.Need-slice-aggregate-deadline-for Inv-loop μ
 slice-aggregate-deadline-for c = search needs
 
 deadline-for-requires : tie.Need-deadline-for-requires Inv-loop μ-loop
-deadline-for-requires c κs = (c .before .before .before .before .loop .inv .lates .size, c .before .before .before .before .loop .inv .rises)
+deadline-for-requires c κs = (c .before .before .before .before .loop .inv .lates .size, c .before .before .before .before .loop .inv .in-time)
 
 slice-aggregate-choice-reply : tie.Need-slice-aggregate-choice-reply Inv-loop μ-loop
 slice-aggregate-choice-reply c = search needs
@@ -203,7 +203,7 @@ loop-again c =
           (done .kept .1 .0 ∙ g .state-long) (length-set (l .regs) _ _ ∙ g .regs-wide)
           (whole-after _ _ _ _ _ _ _ made (g .state-long) (g .regs-wide) low);
       lates = lates-after _ _ _ _ _ _ _ made (g .state-long) (g .regs-wide) low (l .lates) (l .inv .lates) _ (c .before .before .before .before .late-at .ensures);
-      rises = deadline-after _ _ _ _ _ _ _ made (g .state-long) (g .regs-wide) low good (said d ∙ z) (l .lates) (l .inv .lates) _ (c .before .before .before .before .before .before .before .before .before .before .before .before .before .deadline-for .ensures .1) _ (c .before .before .before .before .late-at .ensures);
+      in-time = deadline-after _ _ _ _ _ _ _ made (g .state-long) (g .regs-wide) low good (said d ∙ z) (l .lates) (l .inv .lates) _ (c .before .before .before .before .before .before .before .before .before .before .before .before .before .deadline-for .ensures .1) _ (c .before .before .before .before .late-at .ensures);
     }
 
 finish-requires-2 : tie.Need-finish-requires-2 Inv-loop μ-loop
