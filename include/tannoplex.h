@@ -274,11 +274,12 @@ uint32_t tannoplex_start(const uint32_t *table, size_t table_len, uint32_t *stat
 /*
  * Picks a choice that tannoplex_step accepts: of the agents that have not ended the one whose row has
  * the least late, of several the lowest, at the later of the clock and the early of that row. Nothing
- * is written. Where it is accepted, tannoplex_step with this agent and this time on the same words
+ * is written. Where its reply is 0, tannoplex_step with this agent and this time on the same words
  * replies 0. From the start state this loop runs any accepted table to its end, in no more steps than
  * it has rows:
  *     while ((picked = tannoplex_pick(table, table_len, state, state_len)).reply == 0)
  *         tannoplex_step(table, table_len, state, state_len, picked.agent, picked.time);
+ * It ends with 11; with 1, 8 or 9 the words were refused.
  * It is one order of many: what each agent passes through does not depend on what is picked.
  * Replies: 1, 8, 9, then 11 where all agents have ended.
  */

@@ -1,5 +1,5 @@
 -- What a caller's loop can rely on, proved: a state that fits is a ready system of the model, so that the model's progress and completion are its own.
-use mathlib.Core.Path.{_≡_, refl, sym, ap, subst, _∙_}
+use mathlib.Core.Path.{_≡_, refl, sym, ap, ap₂, subst, _∙_}
 use mathlib.Core.Bool.{Bool, true, false, not, cond, true≢false}
 use mathlib.Core.List.{List, [], _∷_}
 use mathlib.Core.Logic.{_≢_, ⊎-elim}
@@ -16,7 +16,8 @@ use Rattle.pharos.proofs.Progress.{least, least-may, progress}
 use Rattle.pharos.proofs.Completion.{total-le, bounded, stops-ended}
 use Rattle.tables.specs.Basics.{first}
 use Rattle.tables.specs.Layout.{agents, rows, row, tableWords}
-use Rattle.tables.proofs.Good.{few}
+use Rattle.tables.specs.declared.Row.{Row}
+use Rattle.tables.proofs.Good.{few, few-rows}
 use Rattle.tables.proofs.Onward.{rises}
 use Rattle.tables.proofs.Passed.{passed, some-fails}
 use Rattle.tables.proofs.Tests.{and-both}
@@ -44,7 +45,7 @@ use Rattle.demands.proofs.Step.{low}
 use Rattle.demands.proofs.Demand2.{choice-is-models}
 use Rattle.demands.proofs.Assumed.{assumptions-hold}
 use Rattle.demands.proofs.Call.{ready, ready-table, ready-state, reply-is, was, left-words}
-use Rattle.demands.proofs.Lent.{agents-part, rows-part, pos-part}
+use Rattle.demands.proofs.Lent.{agents-part, rows-part, row-part, pos-part, clock-part}
 
 total-same : (f g : ℕ → ℕ) (n : ℕ) → ((b : ℕ) → b < n → f b ≡ g b) → total f n ≡ total g n
 unfolding total
@@ -144,9 +145,6 @@ module _ (tb : List ℕ) (table : Table tb) where
         let (unended, due) = least-is tb st (pickedAgent tb st) k in
         least-accepted (pickedAgent tb st) h unended due
 
-pub least-late-accepted : LeastLateAccepted
-least-late-accepted tb st table state a h unended due = least-accepted tb table st state a h unended due
-
 -- ---- the lent words
 
 module _ (tb st : List ℕ) (usable : Usable tb st) where
@@ -177,6 +175,26 @@ module _ (tb st : List ℕ) (usable : Usable tb st) where
   -- `step` replies to a choice what the state's own words do
   accepts : (a t : ℕ) → choiceReply rules words a t ≡ 0 → StepAccepts tb st a t
   accepts a t c = reply-is tb st a t (ready tb st (usable .0) (usable .1)) ∙ c
+
+  -- an unfinished agent's row
+  current-part : (b : ℕ) → b < agents tb → pos st b < rows tb b → current rules words b ≡ current tb st b
+  current-part b h l =
+      let low = low-lent b h in
+      let short = few-rows rules (usable .0 .good) b (omega (arith, agents-part tb)) in
+      ap (row rules b) (position-part b h) ∙ row-part tb b (pos st b) low (omega (arith, rows-part tb b low))
+
+pub least-late-accepted : LeastLateAccepted
+least-late-accepted tb st usable a h l due =
+    let rules = tablePart tb in
+    let words = statePart st in
+    let real : a < agents rules = omega (arith, agents-part tb) in
+    let unended : pos words a < rows rules a = omega (arith, position-part tb st usable a h, rows-part tb a (low-lent tb st usable a h)) in
+    let own = current-part tb st usable a h l in
+    let c = least-accepted rules (usable .0) words (usable .1) a real unended (λ b k n.
+    let k′ : b < agents tb = omega (arith, agents-part tb) in
+    let n′ : pos st b < rows tb b = omega (arith, position-part tb st usable b k′, rows-part tb b (low-lent tb st usable b k′)) in
+    rw (own, current-part tb st usable b k′ n′) (due b k′ n′)) in
+    accepts tb st usable a (max (clock st) (current tb st a .early)) (subst (λ t. choiceReply rules words a t ≡ 0) (ap₂ (λ (x : ℕ) (r : Row). max x (r .early)) (clock-part st) own) c)
 
 -- words that an accepted step was taken of
 was-usable : (tb st : List ℕ) (a t : ℕ) → StepAccepts tb st a t → Usable tb st × (choiceReply (tablePart tb) (statePart st) a t ≡ 0)

@@ -11,11 +11,11 @@ use lib.ListN.{length, take, drop, getD, length-take}
 use lib.Seq.{getD-take}
 use borrow.Author.Tests.{ltb-false, ne-eqb, eqb-false, not-false}
 use Rattle.tables.specs.Basics.{first}
-use Rattle.tables.specs.Layout.{agents, rows, tableWords}
+use Rattle.tables.specs.Layout.{agents, rows, row, rowPlace, tableWords}
 use Rattle.tables.specs.Table.{goodTable}
 use Rattle.tables.proofs.Passed.{passed as passes}
 use Rattle.choices.specs.declared.Agent.{Agent}
-use Rattle.choices.specs.State.{agentAt, pos, stateWords, startWords, posPlace, regPlace}
+use Rattle.choices.specs.State.{agentAt, clock, pos, stateWords, startWords, posPlace, regPlace}
 use Rattle.executive.specs.Run.{RunOutcome, ended, runFrom}
 use Rattle.executive.specs.Calls.{tablePart, statePart, pastState, runRefusal, runInto}
 use Rattle.tables.proofs.Good.{few}
@@ -35,6 +35,9 @@ use Rattle.demands.proofs.Demand3.{deterministic-from, same-ends-from}
 -- an agent in words with others behind them
 pub pos-part : (st : List ℕ) (b : ℕ) → b < 16 → pos (statePart st) b ≡ pos st b
 pos-part st b h = getD-take stateWords st (posPlace b) 0 (omega arith)
+
+pub clock-part : (st : List ℕ) → clock (statePart st) ≡ clock st
+clock-part st = getD-take stateWords st 0 0 (omega arith)
 
 agent-part : (st : List ℕ) (b : ℕ) → stateWords ≤ length st → b < 16 → agentAt (statePart st) b ≡ agentAt st b
 agent-part st b long h = λ k. record { pos = pos-part st b h k; regs = registers k }
@@ -74,6 +77,11 @@ module _ (tb : List ℕ) where
 
   pub rows-part : (b : ℕ) → b < 16 → rows (tablePart tb) b ≡ rows tb b
   rows-part b h = getD-take tableWords tb (1 + b) 0 (omega arith)
+
+  pub row-part : (b i : ℕ) → b < 16 → i < 32 → row (tablePart tb) b i ≡ row tb b i
+  row-part b i h l =
+      let word : (k : ℕ) → k < 4 → getD (tablePart tb) (rowPlace b i + k) 0 ≡ getD tb (rowPlace b i + k) 0 = λ k m. getD-take tableWords tb (rowPlace b i + k) 0 (omega arith) in
+      rw (getD-take tableWords tb (rowPlace b i) 0 (omega arith), word 1 (omega arith), word 2 (omega arith), word 3 (omega arith))
 
 -- a run that has ended every agent in the lent words has done so from the start state
 ended-from : (tb st : List ℕ) (table : Table (tablePart tb)) → stateWords ≤ length st → (cs : List ℕ) → runRefusal tb st cs ≡ 0

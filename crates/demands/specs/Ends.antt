@@ -8,7 +8,6 @@ use Rattle.pharos.specs.Runs.{total}
 use Rattle.tables.specs.Layout.{agents, rows}
 use Rattle.choices.specs.State.{clock, pos}
 use Rattle.choices.specs.Fit.{current}
-use Rattle.choices.specs.Step.{choiceReply}
 use Rattle.executive.specs.Calls.{tablePart, statePart, startInto, stepInto, pickFrom}
 use Rattle.executive.specs.Laws.{Begins}
 use Rattle.demands.specs.Demand2.{Table, Fitting}
@@ -36,9 +35,9 @@ StepKeepsUsable = (tb st : List ℕ) (a t : ℕ) → StepAccepts tb st a t → U
 
 -- "the unfinished agent with the least late always has a time it could be run at": the later of the clock and its early
 abbrev pub LeastLateAccepted : Type 0
-LeastLateAccepted = (tb st : List ℕ) → Table tb → Fitting tb st → (a : ℕ) → a < agents tb → pos st a < rows tb a
+LeastLateAccepted = (tb st : List ℕ) → Usable tb st → (a : ℕ) → a < agents tb → pos st a < rows tb a
     → ((b : ℕ) → b < agents tb → pos st b < rows tb b → current tb st a .late ≤ current tb st b .late)
-    → choiceReply tb st a (max (clock st) (current tb st a .early)) ≡ 0
+    → StepAccepts tb st a (max (clock st) (current tb st a .early))
 
 abbrev pub SomeAccepted : Type 0
 SomeAccepted = (tb st : List ℕ) → Usable tb st → SomeUnfinished tb st → (a t : ℕ) × StepAccepts tb st a t
@@ -99,6 +98,6 @@ byPick tb n st = (pickFrom tb st .agent, pickFrom tb st .time)
 abbrev pub PickingEnds : Type 0
 PickingEnds = (tb st : List ℕ) → Usable tb st → AllAtTheirEnd tb (loop (byPick tb) tb (rowsOf tb) st)
 
--- and so `start`, then `pick` and `step` until 11, runs any accepted table to its end.
+-- and so `start`, then `pick` and `step` until 11, runs any accepted table to its end. (Once all have ended a further turn is refused, and changes nothing.)
 abbrev pub StartedEnds : Type 0
 StartedEnds = (tb st : List ℕ) → startInto tb st .reply ≡ 0 → AllAtTheirEnd tb (loop (byPick tb) tb (rowsOf tb) (startInto tb st .state))

@@ -1,4 +1,4 @@
--- No call replies with 14. Assumes nothing.
+-- No call that takes or gives a choice replies with 14. Assumes nothing.
 use mathlib.Core.Path.{_≡_, refl, sym, ap, _∙_}
 use mathlib.Core.Logic.{_≢_}
 use mathlib.Core.List.{List, [], _∷_, _++_}

@@ -86,7 +86,7 @@ only-stepped tb st a t r s after other p q = p ∙ sym q
 
 -- ---- run
 
--- "Run, 1, 16, 8, then each step's 10 to 15": the refusals before any step
+-- "Run, 1, 16, 8, then each step's 10 to 15", 14 reserved: the refusals before any step
 unfoldable pub runRefusal : (tb st cs : List ℕ) → ℕ
 runRefusal tb st cs =
     first

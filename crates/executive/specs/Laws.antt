@@ -1,4 +1,4 @@
--- Laws that show the definitions to mean what 01 says: each as a statement, in 01's words. proofs/Laws.antt proves each under its own name. Assumes nothing.
+-- Laws that show the definitions to mean what 01 says, and what T-04 and T-07 ask: each as a statement, in 01's words where it is 01's. proofs/Laws.antt proves each under its own name. Assumes nothing.
 use mathlib.Core.Path.{_≡_}
 use mathlib.Core.Logic.{_↔_, _⊎_, _≢_}
 use mathlib.Core.Bool.{true}

@@ -209,7 +209,7 @@ fn pick_16_agents() -> Row {
 }
 
 fn pick_3_agents() -> Row {
-    pick("3 agents of 32 rows", &inputs::table(3, ROWS, inputs::MANY_RECVS), 3)
+    pick("3 agents of 32 rows", &inputs::table(3, ROWS, inputs::MANY_RECVS), 4)
 }
 
 /// Whole runs, each accepted to its end.

@@ -45,7 +45,7 @@ pub fn schedule(rng: &mut Rng, table: &Table, order: Order) -> Vec<Choice> {
     choices
 }
 
-/// Any choice: accepted, or at one of the edges of 10 to 15.
+/// Any choice: accepted, or at one of the edges of 10 to 13 and 15.
 pub fn any(rng: &mut Rng, table: &Table, state: &State) -> Choice {
     let count = table.agents.len() as u32;
     let unfinished: Vec<usize> =

@@ -74,7 +74,8 @@ impl Default for Plan {
     }
 }
 
-/// A case in which the board and the reference differ, or the board breaks demand 3.
+/// A case in which the board and the reference differ, or the board breaks demand 3 or what T-04
+/// assures a loop.
 #[derive(Debug)]
 pub struct Failure {
     pub seed: u64,

@@ -163,13 +163,15 @@ const WRONG_PICKS: [WrongPick; 13] = [
         Some(word) if *word != 0 => (BAD_STATE, 0, 0),
         _ => quick::pick(table, state),
     }),
-    ("the state's words taken as they are", |table, state| match quick::pick(table, state) {
-        (BAD_STATE, ..) => {
-            let mut start = [0; STATE_WORDS];
-            quick::start(table, &mut start);
-            quick::pick(table, &start)
+    ("a state that does not fit taken for the start state", |table, state| {
+        match quick::pick(table, state) {
+            (BAD_STATE, ..) => {
+                let mut start = [0; STATE_WORDS];
+                quick::start(table, &mut start);
+                quick::pick(table, &start)
+            }
+            picked => picked,
         }
-        picked => picked,
     }),
     ("the time before the agent", |table, state| {
         let (reply, agent, time) = quick::pick(table, state);

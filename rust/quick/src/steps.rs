@@ -73,7 +73,8 @@ impl<'a> State<'a> {
 }
 
 /// The lates of the agents' current rows, the greatest number for those that have ended; and a
-/// deadline that was the least of them. Lates only rise, so no time up to it is above any.
+/// deadline, at first 0, that was the least of them. Lates only rise, so no time up to it is above
+/// any.
 pub struct Lates {
     lates: [u32; AGENTS],
     deadline: u32,

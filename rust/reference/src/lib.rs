@@ -1,5 +1,5 @@
 //! Document 01 once more, as change requests T-01 to T-04 of document 02 leave it, in plain Rust,
-//! written from the papers alone.
+//! written from the papers alone; `pick`, which no paper has, from docs/DECISIONS.md (65).
 //!
 //! It is here to be compared with the proved library, so it is direct and not quick: words are
 //! decoded into tables and states, worked on as such, and encoded again.

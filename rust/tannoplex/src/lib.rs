@@ -183,15 +183,14 @@ pub fn start(table: &[u32], state: &mut [u32]) -> Reply {
 /// let mut state = [0; STATE_WORDS];
 /// assert_eq!(tannoplex::start(&table, &mut state), Reply::Accepted);
 /// let mut choices = Vec::new();
-/// loop {
-///     let picked = tannoplex::pick(&table, &state);
-///     if picked.reply == Reply::AgentEnded {
-///         break;
-///     }
+/// let mut picked = tannoplex::pick(&table, &state);
+/// while picked.reply.is_accepted() {
 ///     let reply = tannoplex::step(&table, &mut state, picked.agent, picked.time);
 ///     assert_eq!(reply, Reply::Accepted);
 ///     choices.push((picked.agent, picked.time));
+///     picked = tannoplex::pick(&table, &state);
 /// }
+/// assert_eq!(picked.reply, Reply::AgentEnded);
 /// assert_eq!(choices, [(0, 1), (1, 4)]);
 /// ```
 pub fn pick(table: &[u32], state: &[u32]) -> Picked {
