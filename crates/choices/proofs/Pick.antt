@@ -11,7 +11,7 @@ use borrow.Author.Tests.{ltb-true, lt-ltb, le-ltb}
 use Rattle.tables.specs.Layout.{agents, rows, row}
 use Rattle.tables.specs.Table.{goodTable}
 use Rattle.tables.specs.declared.Row.{Row}
-use Rattle.tables.proofs.Tests.{and-both, and-left, and-right}
+use Rattle.tables.proofs.Tests.{and-both}
 use Rattle.tables.proofs.Passed.{and-1, and-2, all-below, not-all-below}
 use Rattle.tables.proofs.FirstBelow.{first-below-is, first-below-found}
 use Rattle.tables.proofs.Good.{few, table-facts, no-count, late-bound}

@@ -6,34 +6,28 @@ use mathlib.Core.Logic.{_≢_, ⊎-elim}
 use Prim.Native.Nat.{ℕ, zero, suc, zero-le, max, _-_, _≤_, _<_}
 use native.Mathlib.Omega.{arith}
 use lib.Dec.{leb}
-use lib.ListN.{length, length-take}
-use lib.Seq.{getD-take}
-use borrow.Author.Tests.{leb-true, leb-false, lt-leb, le-ltb, ltb-false, not-false}
+use borrow.Author.Tests.{leb-true, leb-false, lt-leb, not-false}
 use Rattle.pharos.specs.Model.{Model, System, Good, step, start, _▸_}
 use Rattle.pharos.specs.Runs.{total, Ready, work, Windows, Nearer}
 use Rattle.pharos.proofs.Instance.{model, system, picked, executes-is-step}
 use Rattle.pharos.proofs.Progress.{least, least-may, progress}
 use Rattle.pharos.proofs.Completion.{total-le, bounded, stops-ended}
-use Rattle.tables.specs.Basics.{first}
-use Rattle.tables.specs.Layout.{agents, rows, row, tableWords}
+use Rattle.tables.specs.Layout.{agents, rows, row}
 use Rattle.tables.specs.declared.Row.{Row}
 use Rattle.tables.proofs.Good.{few, few-rows}
 use Rattle.tables.proofs.Onward.{rises}
-use Rattle.tables.proofs.Passed.{passed, some-fails}
-use Rattle.tables.proofs.Tests.{and-both}
-use Rattle.tables.proofs.FirstBelow.{first-below-found}
+use Rattle.tables.proofs.Passed.{some-fails}
 use Rattle.choices.specs.declared.Agent.{Agent}
-use Rattle.choices.specs.State.{clock, pos, posPlace, stateWords}
-use Rattle.choices.specs.Fit.{unfinished, current, inTime}
+use Rattle.choices.specs.State.{clock, pos}
+use Rattle.choices.specs.Fit.{unfinished, current}
 use Rattle.choices.specs.Step.{choiceReply, accepted, InTime}
 use Rattle.choices.specs.Pick.{soonest, allEnded, hasLeastLate, pickedAgent}
 use Rattle.choices.proofs.Choice.{allowed as permitted}
 use Rattle.choices.proofs.Pick.{below-its-rows, is-unfinished, some-left, is-least, least-is, all-over, over-all, picked-is}
-use Rattle.executive.specs.Calls.{tablePart, statePart, startInto, stepInto, PickOutcome, pickReply, pickFrom}
-use Rattle.executive.specs.Laws.{Begins}
+use Rattle.executive.specs.Calls.{tablePart, statePart, wordsReply, startInto, stepInto, PickOutcome, pickReply, pickFrom}
 use Rattle.executive.proofs.Fitting.{Fits, fits-says}
-use Rattle.executive.proofs.Ready.{started-ready}
-use Rattle.executive.proofs.PickedBy.{picked-by, replied}
+use Rattle.executive.proofs.Ready.{both-zero, zero-words, started-ready}
+use Rattle.executive.proofs.PickedBy.{picked-by, pick-ready, replied}
 use Rattle.demands.specs.Instance.{published, decode}
 use Rattle.demands.specs.Demand2.{Table, Fitting}
 use Rattle.demands.specs.Demand3.{AllAtTheirEnd}
@@ -223,21 +217,20 @@ some-accepted tb st usable some =
 -- ---- pick
 
 module _ (tb st : List ℕ) where
-  -- the tests that it passes
+  -- where it replies 0 the words are not refused, and some agent is left
   passes : pickReply tb st ≡ 0 → Usable tb st × (allEnded (tablePart tb) (statePart st) ≡ false)
   unfolding pickReply
   passes e =
-      let clear = passed _ tt e in
-      let l : tableWords ≤ length tb = ltb-false _ _ (clear 0) in
-      let m : stateWords ≤ length st = ltb-false _ _ (clear 1) in
-      ((record { long = simp length-take (omega arith); good = not-false _ (clear 2) }, record { long = simp length-take (omega arith); fit = not-false _ (clear 3) }), clear 4)
+      let (w, some) = both-zero (wordsReply tb st) _ e in
+      let r = zero-words tb st w in
+      ((ready-table tb st r, ready-state tb st r), go (allEnded (tablePart tb) (statePart st)) some)
+    where
+      go : (b : Bool) → _≡_ {A = ℕ} (cond b 11 0) 0 → b ≡ false
+      go true h = absurd (omega arith)
+      go false h = refl
 
-  module _ (usable : Usable tb st) where
-    by-end : (b : Bool) → allEnded (tablePart tb) (statePart st) ≡ b → pickReply tb st ≡ cond b 11 0
-    unfolding pickReply first
-    by-end b e =
-        let r = ready tb st (usable .0) (usable .1) in
-        rw (le-ltb (length tb) tableWords (r .table), le-ltb (length st) stateWords (r .state), r .good, r .fit, e)
+  by-end : Usable tb st → (b : Bool) → allEnded (tablePart tb) (statePart st) ≡ b → pickReply tb st ≡ cond b 11 0
+  by-end usable = pick-ready tb st (ready tb st (usable .0) (usable .1))
 
 pub pick-is-accepted : PickIsAccepted
 pick-is-accepted tb st e = go (pickReply tb st) refl

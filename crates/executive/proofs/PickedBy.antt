@@ -2,17 +2,18 @@
 use mathlib.Core.Path.{_≡_, refl, sym, ap, ap₂, _∙_}
 use mathlib.Core.List.{List}
 use mathlib.Core.Logic.{by-cases}
-use mathlib.Core.Bool.{Bool, true, false, true≢false}
+use mathlib.Core.Bool.{Bool, true, false, cond, true≢false}
 use Prim.Native.Nat.{ℕ, zero, suc, _<_}
 use native.Mathlib.Decide.{decLt}
 use native.Mathlib.Omega.{arith}
 use Rattle.tables.specs.Layout.{agents}
 use Rattle.tables.proofs.FirstBelow.{first-below-is, first-below-before, first-below-holds}
 use Rattle.choices.specs.Fit.{current}
-use Rattle.choices.specs.Pick.{soonest, hasLeastLate, pickedAgent}
+use Rattle.choices.specs.Pick.{soonest, allEnded, hasLeastLate, pickedAgent}
 use Rattle.choices.proofs.Pick.{is-least, least-is}
-use Rattle.executive.specs.Calls.{tablePart, statePart, PickOutcome, picked, pickReply, pickFrom}
+use Rattle.executive.specs.Calls.{tablePart, statePart, wordsReply, PickOutcome, picked, pickReply, pickFrom}
 use Rattle.executive.specs.Laws.{LeastLate}
+use Rattle.executive.proofs.Ready.{Ready, words-zero, then-next}
 
 module _ (tb st : List ℕ) where
   abbrev agent : ℕ
@@ -20,6 +21,11 @@ module _ (tb st : List ℕ) where
 
   abbrev time : ℕ
   time = soonest (tablePart tb) (statePart st) agent
+
+  -- of words that are not refused it goes by whether all have ended
+  pub pick-ready : Ready tb st → (b : Bool) → allEnded (tablePart tb) (statePart st) ≡ b → pickReply tb st ≡ cond b 11 0
+  unfolding pickReply
+  pick-ready r b e = then-next (wordsReply tb st) _ (words-zero tb st r) ∙ rw e
 
   -- by the reply
   abbrev answer : ℕ → PickOutcome

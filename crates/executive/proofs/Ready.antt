@@ -2,11 +2,10 @@
 -- with 9. Assumes nothing.
 use mathlib.Core.Path.{_≡_, refl, sym, ap, _∙_}
 use mathlib.Core.Logic.{_≢_}
-use mathlib.Core.Bool.{Bool, true, false, not, cond}
+use mathlib.Core.Bool.{true}
 use mathlib.Core.List.{List, _++_}
 use Prim.Native.Nat.{ℕ, zero, suc, _≤_}
 use native.Mathlib.Omega.{arith}
-use lib.Dec.{ltb}
 use lib.ListN.{length, length-take, length-append}
 use lib.Seq.{take-at, drop-at}
 use borrow.Author.Tests.{ltb-false, le-ltb, not-false}
@@ -17,7 +16,7 @@ use Rattle.tables.proofs.Passed.{passed}
 use Rattle.choices.specs.State.{stateWords, startWords}
 use Rattle.choices.specs.Fit.{fits}
 use Rattle.choices.specs.Step.{choiceReply, accepted}
-use Rattle.executive.specs.Calls.{tablePart, statePart, pastState, Outcome, outcome, startReply, startInto, stepReply, stepInto}
+use Rattle.executive.specs.Calls.{tablePart, statePart, pastState, then, wordsReply, Outcome, outcome, startReply, startInto, stepReply, stepInto}
 use Rattle.tables.proofs.Good.{few}
 use Rattle.choices.proofs.After.{accepted-length}
 use Rattle.choices.proofs.Choice.{allowed, lacking}
@@ -29,9 +28,24 @@ abbrev pub answer : ℕ → (new old : List ℕ) → Outcome
 answer zero new old = outcome 0 new
 answer (suc r) new old = outcome (suc r) old
 
-refused-not : (b : Bool) (r x : ℕ) → cond b (suc r) x ≡ 0 → (b ≡ false) × (x ≡ 0)
-refused-not true r x h = absurd (omega arith)
-refused-not false r x h = (refl, h)
+-- of two replies, one after the other
+module _ (r n : ℕ) where
+  pub then-first : (r ≡ 0 → ⊥) → then r n ≡ r
+  unfolding then
+  then-first k = go r k
+    where
+      go : (x : ℕ) → (x ≡ 0 → ⊥) → then x n ≡ x
+      go zero k = absurd (k refl)
+      go (suc x) k = refl
+
+  pub then-next : r ≡ 0 → then r n ≡ n
+  unfolding then
+  then-next e = rw e
+
+pub both-zero : (r n : ℕ) → then r n ≡ 0 → (r ≡ 0) × (n ≡ 0)
+unfolding then
+both-zero zero n h = (refl, h)
+both-zero (suc r) n h = absurd (omega arith)
 
 -- a state's words with others behind them
 module _ (w rest : List ℕ) (long : length w ≡ 1105) where
@@ -50,10 +64,26 @@ module _ (tb : List ℕ) where
     pub good : goodTable (tablePart tb) ≡ true
     pub fit : fits (tablePart tb) (statePart st) ≡ true
 
+  -- they are those that are refused with nothing
+  pub words-zero : (st : List ℕ) → Ready st → wordsReply tb st ≡ 0
+  unfolding wordsReply first
+  words-zero st r = rw (le-ltb (length tb) tableWords (r .table), le-ltb (length st) stateWords (r .state), r .good, r .fit)
+
+  pub zero-words : (st : List ℕ) → wordsReply tb st ≡ 0 → Ready st
+  unfolding wordsReply
+  zero-words st h =
+      let clear = passed _ tt h in
+      record {
+        table = ltb-false _ _ (clear 0);
+        state = ltb-false _ _ (clear 1);
+        good = not-false _ (clear 2);
+        fit = not-false _ (clear 3);
+      }
+
   module _ (st : List ℕ) (a t : ℕ) where
     pub ready-reply : Ready st → stepReply tb st a t ≡ choiceReply (tablePart tb) (statePart st) a t
-    unfolding stepReply first
-    ready-reply r = rw (le-ltb (length tb) tableWords (r .table), le-ltb (length st) stateWords (r .state), r .good, r .fit)
+    unfolding stepReply then
+    ready-reply r = rw (words-zero st r)
 
     pub stepped-by : stepInto tb st a t ≡ answer (stepReply tb st a t) (accepted (tablePart tb) (statePart st) a t ++ pastState st) st
     unfolding stepInto
@@ -66,20 +96,8 @@ module _ (tb : List ℕ) where
 
     -- an accepted step was taken of such words
     pub was-ready : stepReply tb st a t ≡ 0 → Ready st × (choiceReply (tablePart tb) (statePart st) a t ≡ 0)
-    unfolding stepReply first
-    was-ready h =
-        let p = refused-not (ltb (length tb) tableWords) 0 _ h in
-        let q = refused-not (ltb (length st) stateWords) 0 _ (p .1) in
-        let u = refused-not (not (goodTable (tablePart tb))) 7 _ (q .1) in
-        let v = refused-not (not (fits (tablePart tb) (statePart st))) 8 _ (u .1) in (
-          record {
-            table = ltb-false _ _ (p .0);
-            state = ltb-false _ _ (q .0);
-            good = not-false _ (u .0);
-            fit = not-false _ (v .0);
-          },
-          v .1,
-        )
+    unfolding stepReply
+    was-ready h = let (w, c) = both-zero (wordsReply tb st) _ h in (zero-words st w, c)
 
   module _ (w rest : List ℕ) (long : length w ≡ 1105) where
     pub make-ready : tableWords ≤ length tb → goodTable (tablePart tb) ≡ true → fits (tablePart tb) w ≡ true → Ready (w ++ rest)

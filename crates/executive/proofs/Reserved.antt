@@ -1,15 +1,16 @@
 -- No call that takes or gives a choice replies with 14. Assumes nothing.
 use mathlib.Core.Path.{_≡_, refl, sym, ap, _∙_}
 use mathlib.Core.Logic.{_≢_}
+use mathlib.Core.Bool.{Bool, true, false, cond}
 use mathlib.Core.List.{List, [], _∷_, _++_}
 use Prim.Native.Nat.{ℕ, zero, suc, _+_}
 use native.Mathlib.Omega.{arith}
-use borrow.Author.Tests.{ne-eqb}
 use Rattle.choices.specs.State.{startWords}
+use Rattle.choices.specs.Pick.{allEnded}
 use Rattle.choices.specs.Step.{choiceReply, accepted}
 use Rattle.choices.proofs.Choice.{lacking}
 use Rattle.executive.specs.Run.{RunOutcome, ended, runFrom}
-use Rattle.executive.specs.Calls.{tablePart, statePart, pastState, Outcome, PickOutcome, stepReply, stepInto, runRefusal, before, runInto, pickReply, pickFrom}
+use Rattle.executive.specs.Calls.{tablePart, statePart, pastState, then, wordsReply, Outcome, stepReply, stepInto, runRefusal, before, runInto, pickReply, pickFrom}
 use Rattle.executive.proofs.Runs.{run-go, run-stop}
 use Rattle.executive.proofs.Ready.{answer, stepped-by}
 use Rattle.executive.proofs.PickedBy.{replied}
@@ -18,10 +19,19 @@ choice-not : (tb st : List ℕ) (a t : ℕ) → choiceReply tb st a t ≢ 14
 unfolding choiceReply
 choice-not tb st a t = lacking 14 _ refl
 
+words-not : (tb st : List ℕ) → wordsReply tb st ≢ 14
+unfolding wordsReply
+words-not tb st = lacking 14 _ refl
+
+then-not : (r n : ℕ) → r ≢ 14 → n ≢ 14 → then r n ≢ 14
+unfolding then
+then-not zero n h k = k
+then-not (suc r) n h k = h
+
 pub step-not : (tb st : List ℕ) (a t : ℕ) → stepInto tb st a t .reply ≢ 14
 unfolding stepReply
 step-not tb st a t e =
-    lacking 14 _ (rw (ne-eqb (choiceReply (tablePart tb) (statePart st) a t) 14 (choice-not (tablePart tb) (statePart st) a t)))
+    then-not (wordsReply tb st) _ (words-not tb st) (choice-not (tablePart tb) (statePart st) a t)
     (sym (same (stepReply tb st a t)) ∙ sym (ap (λ (o : Outcome). o .reply) (stepped-by tb st a t)) ∙ e)
   where
     new : List ℕ
@@ -58,4 +68,8 @@ run-not tb st cs = go (runRefusal tb st cs) (refusal-not tb st cs)
 
 pub pick-not : (tb st : List ℕ) → pickFrom tb st .reply ≢ 14
 unfolding pickReply
-pick-not tb st e = lacking 14 _ refl (sym (replied tb st (pickReply tb st) refl) ∙ e)
+pick-not tb st e = then-not (wordsReply tb st) _ (words-not tb st) (end-not (allEnded (tablePart tb) (statePart st))) (sym (replied tb st (pickReply tb st) refl) ∙ e)
+  where
+    end-not : (b : Bool) → _≢_ {A = ℕ} (cond b 11 0) 14
+    end-not true h = omega arith
+    end-not false h = omega arith

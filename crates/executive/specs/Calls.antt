@@ -1,7 +1,7 @@
 -- What each public call replies and leaves, as one statement over its inputs, its reply and every lent word afterwards.
 -- Each is stated of the first 2,129 and 1,105 words: what stands past them is not read, and stays. Assumes nothing.
 use mathlib.Core.Path.{_≡_, sym, _∙_}
-use mathlib.Core.Bool.{true, not}
+use mathlib.Core.Bool.{not, cond}
 use mathlib.Core.List.{List, [], _∷_, _++_}
 use Prim.Native.Nat.{ℕ, zero, suc, _%_}
 use lib.Dec.{ltb, eqb}
@@ -57,18 +57,28 @@ pub only-started : (tb st : List ℕ) (r s : ℕ) (after other : List ℕ) → S
     → outcome r after ≡ outcome s other
 only-started tb st r s after other p q = p ∙ sym q
 
--- ---- step
+-- ---- the words of a table and a state, whatever is asked of them
 
--- "Step, 1, 8, 9, then 10 to 15 in that order"; 14 is reserved, and no call gives it
-unfoldable pub stepReply : (tb st : List ℕ) (a t : ℕ) → ℕ
-stepReply tb st a t =
+-- 1, 8 and 9
+unfoldable pub wordsReply : (tb st : List ℕ) → ℕ
+wordsReply tb st =
     first
     ((ltb (length tb) tableWords ⇒ 1)
     ∷ (ltb (length st) stateWords ⇒ 1)
     ∷ (not (goodTable (tablePart tb)) ⇒ 8)
     ∷ (not (fits (tablePart tb) (statePart st)) ⇒ 9)
-    ∷ (true ⇒ choiceReply (tablePart tb) (statePart st) a t)
     ∷ [])
+
+-- the first reply, and where it is 0 the second
+unfoldable pub then : (reply next : ℕ) → ℕ
+then zero n = n
+then (suc r) n = suc r
+
+-- ---- step
+
+-- "Step, 1, 8, 9, then 10 to 15 in that order"; 14 is reserved, and no call gives it
+unfoldable pub stepReply : (tb st : List ℕ) (a t : ℕ) → ℕ
+stepReply tb st a t = then (wordsReply tb st) (choiceReply (tablePart tb) (statePart st) a t)
 
 unfoldable pub stepInto : (tb st : List ℕ) (a t : ℕ) → Outcome
 stepInto tb st a t =
@@ -128,14 +138,7 @@ picked r a t = record { reply = r; agent = a; time = t }
 
 -- 1, 8, 9, then 11 where all agents have ended
 unfoldable pub pickReply : (tb st : List ℕ) → ℕ
-pickReply tb st =
-    first
-    ((ltb (length tb) tableWords ⇒ 1)
-    ∷ (ltb (length st) stateWords ⇒ 1)
-    ∷ (not (goodTable (tablePart tb)) ⇒ 8)
-    ∷ (not (fits (tablePart tb) (statePart st)) ⇒ 9)
-    ∷ (allEnded (tablePart tb) (statePart st) ⇒ 11)
-    ∷ [])
+pickReply tb st = then (wordsReply tb st) (cond (allEnded (tablePart tb) (statePart st)) 11 0)
 
 -- agent and time are 0 with a refusal
 unfoldable pub pickFrom : (tb st : List ℕ) → PickOutcome

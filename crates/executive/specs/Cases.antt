@@ -10,7 +10,7 @@ use Rattle.tables.specs.Rows.{namesOf, within, fieldsFit, wellFormed, rowReply,
 use Rattle.tables.specs.Table.{rowReplyAt, climbsTo, climbs, goodRows, goodAgent, goodTable}
 use Rattle.choices.specs.Fit.{unfinished, inTime, goodMark, goodPlaces, fits}
 use Rattle.choices.specs.Pick.{allEnded, hasLeastLate, pickedAgent}
-use Rattle.executive.specs.Calls.{pickReply, pickFrom}
+use Rattle.executive.specs.Calls.{then, wordsReply, pickReply, pickFrom}
 
 -- an agent of one row, SET 0, 1, with its window
 agent : (early late : ℕ) → List ℕ
@@ -43,5 +43,5 @@ cases : T (every (
     ∷ picks (replicate 2128 0) (state 2 0 0 1) 1 0 0
     ∷ picks table (replicate 1104 0) 1 0 0
     ∷ []))
-unfolding agent table state picks first every allBelow firstBelow allZero zeroFrom rowOf namesOf within fieldsFit wellFormed rowReply goesOnTo notAbove rowReplyAt climbsTo climbs goodRows goodAgent goodTable unfinished inTime goodMark goodPlaces fits allEnded hasLeastLate pickedAgent pickReply pickFrom
+unfolding agent table state picks first every allBelow firstBelow allZero zeroFrom rowOf namesOf within fieldsFit wellFormed rowReply goesOnTo notAbove rowReplyAt climbsTo climbs goodRows goodAgent goodTable unfinished inTime goodMark goodPlaces fits allEnded hasLeastLate pickedAgent then wordsReply pickReply pickFrom
 cases = tt

@@ -38,9 +38,9 @@ pub fn start(table: &[u32], state: &mut [u32]) -> u32
     ACCEPTED
 }
 
-// Replies 1, 8, 9, 10 to 13, 15 or 0; where it is 0 the state's words are those after the step.
-pub fn step(table: &[u32], state: &mut [u32], agent: u32, time: u32) -> u32
-    ensures { λ r. ⌜ Calls.Stepped (now (table .entry)) (now (state .entry)) agent time r (now (state .exit)) ⌝ }
+// What the words of a table and a state are refused with, whatever is asked of them: replies 1, 8, 9 or 0.
+fn words_reply(table: &[u32], state: &[u32]) -> u32
+    ensures { λ r. ⌜ r ≡ Calls.wordsReply (now (table .entry)) (now (state .entry)) ⌝ }
 {
     if table.len() < TABLE_WORDS {
         return BUFFER_TOO_SHORT;
@@ -55,8 +55,19 @@ pub fn step(table: &[u32], state: &mut [u32], agent: u32, time: u32) -> u32
     if !state_fits(tb, &state[..STATE_WORDS]) {
         return BAD_STATE;
     }
+    ACCEPTED
+}
+
+// Replies 1, 8, 9, 10 to 13, 15 or 0; where it is 0 the state's words are those after the step.
+pub fn step(table: &[u32], state: &mut [u32], agent: u32, time: u32) -> u32
+    ensures { λ r. ⌜ Calls.Stepped (now (table .entry)) (now (state .entry)) agent time r (now (state .exit)) ⌝ }
+{
+    let reply = words_reply(table, state);
+    if reply != ACCEPTED {
+        return reply;
+    }
     let choice = [agent, time];
-    let q = take_choices(tb, &mut state[..STATE_WORDS], &choice);
+    let q = take_choices(&table[..TABLE_WORDS], &mut state[..STATE_WORDS], &choice);
     q.reply
 }
 
@@ -107,20 +118,12 @@ fn none_picked(reply: u32) -> Picked
 pub fn pick(table: &[u32], state: &[u32]) -> Picked
     ensures { λ r. ⌜ Calls.Picked (now (table .entry)) (now (state .entry)) (r .reply) (r .agent) (r .time) ⌝ }
 {
-    if table.len() < TABLE_WORDS {
-        return none_picked(BUFFER_TOO_SHORT);
-    }
-    if state.len() < STATE_WORDS {
-        return none_picked(BUFFER_TOO_SHORT);
+    let reply = words_reply(table, state);
+    if reply != ACCEPTED {
+        return none_picked(reply);
     }
     let tb = &table[..TABLE_WORDS];
-    if !table_is_good(tb) {
-        return none_picked(BAD_TABLE);
-    }
     let st = &state[..STATE_WORDS];
-    if !state_fits(tb, st) {
-        return none_picked(BAD_STATE);
-    }
     let a = picked_agent(tb, st);
     if a == MOST_AGENTS {
         return none_picked(AGENT_ENDED);
