@@ -26,6 +26,20 @@ lacking n ((true ⇒ r) ∷ rs) h e =
     false≢true (sym (not-true (eqb r n && true) (and-1 (not (eqb r n && true)) (lacks n rs) h)) ∙ and-both (eqb r n) true (eq-eqb r n e) refl)
 lacking n ((false ⇒ r) ∷ rs) h e = lacking n rs (and-2 (not (eqb r n && false)) (lacks n rs) h) e
 
+module _ (tb st : List ℕ) (a : ℕ) where
+  -- an unfinished agent's position is below its row count, and the other way round
+  pub below-its-rows : unfinished tb st a ≡ true → pos st a < rows tb a
+  unfolding unfinished
+  below-its-rows h = ltb-true (pos st a) (rows tb a) h
+
+  pub is-unfinished : pos st a < rows tb a → unfinished tb st a ≡ true
+  unfolding unfinished
+  is-unfinished h = lt-ltb (pos st a) (rows tb a) h
+
+  pub has-ended : rows tb a ≤ pos st a → unfinished tb st a ≡ false
+  unfolding unfinished
+  has-ended h = le-ltb (pos st a) (rows tb a) h
+
 module _ (tb st : List ℕ) where
   pub in-time : (t : ℕ) → inTime tb st t ≡ true → InTime tb st t
   unfolding inTime unfinished

@@ -10,7 +10,7 @@ use native.Mathlib.Omega.{arith}
 use lib.Dec.{leb}
 use lib.ListN.{length, getD, set, length-set}
 use lib.Seq.{getD-set-same, getD-set-other}
-use borrow.Author.Tests.{leb-true, le-leb, lt-leb, le-ltb, lt-ltb}
+use borrow.Author.Tests.{leb-true, le-leb, lt-leb}
 use Rattle.tables.proofs.Passed.{below, all-below, below-suc, below-more, below-same}
 use Rattle.tables.specs.Basics.{allBelow}
 use Rattle.tables.specs.Layout.{agents, rows, row}
@@ -19,6 +19,7 @@ use Rattle.tables.proofs.Good.{few, few-rows, table-facts, no-count}
 use Rattle.choices.specs.State.{pos}
 use Rattle.choices.specs.Fit.{unfinished, current, inTime}
 use Rattle.choices.specs.Lates.{noLate, lateAt, Lates, aboveNone}
+use Rattle.choices.proofs.Choice.{is-unfinished, has-ended}
 
 -- ---- the deadline: the least of the lates, agent by agent
 
@@ -88,12 +89,10 @@ module _ (tb : List ℕ) (a p : ℕ) where
 
 module _ (tb st : List ℕ) (a t : ℕ) where
   ended-free : rows tb a ≤ pos st a → (not (unfinished tb st a) || leb t (current tb st a .late)) ≡ true
-  unfolding unfinished
-  ended-free h = rw (le-ltb (pos st a) (rows tb a) h)
+  ended-free h = rw (has-ended tb st a h)
 
   row-limit : pos st a < rows tb a → (not (unfinished tb st a) || leb t (current tb st a .late)) ≡ leb t (current tb st a .late)
-  unfolding unfinished
-  row-limit h = rw (lt-ltb (pos st a) (rows tb a) h)
+  row-limit h = rw (is-unfinished tb st a h)
 
   -- the greatest word is no limit to a word
   limit : t < 2 ^ 32 → leb t (lateAt tb a (pos st a)) ≡ (not (unfinished tb st a) || leb t (current tb st a .late))

@@ -7,7 +7,6 @@ use Prim.Native.Nat.{ℕ, _+_, _≤_, _<_}
 use native.Mathlib.Decide.{decLt, ℕ-discrete}
 use native.Mathlib.Omega.{arith}
 use lib.ListN.{getD}
-use borrow.Author.Tests.{ltb-true, lt-ltb, le-ltb}
 use Rattle.tables.specs.Layout.{agents, rows, row}
 use Rattle.tables.specs.Table.{goodTable}
 use Rattle.tables.specs.declared.Row.{Row}
@@ -20,38 +19,25 @@ use Rattle.choices.specs.Fit.{unfinished, current, inTime}
 use Rattle.choices.specs.Step.{InTime, Allowed}
 use Rattle.choices.specs.Pick.{soonest, canGo, allEnded, hasLeastLate, pickedAgent}
 use Rattle.choices.specs.Lates.{noLate, Lates, Picks}
-use Rattle.choices.proofs.Choice.{in-time, time-in}
+use Rattle.choices.proofs.Choice.{below-its-rows, is-unfinished, has-ended, in-time, time-in}
 use Rattle.choices.proofs.Lates.{late-ended, late-row}
 
 module _ (tb st : List ℕ) (a : ℕ) where
-  -- an unfinished agent's position is below its row count, and the other way round
-  pub below-its-rows : unfinished tb st a ≡ true → pos st a < rows tb a
-  unfolding unfinished
-  below-its-rows h = ltb-true (pos st a) (rows tb a) h
-
-  pub is-unfinished : pos st a < rows tb a → unfinished tb st a ≡ true
-  unfolding unfinished
-  is-unfinished h = lt-ltb (pos st a) (rows tb a) h
-
-  pub has-ended : rows tb a ≤ pos st a → unfinished tb st a ≡ false
-  unfolding unfinished
-  has-ended h = le-ltb (pos st a) (rows tb a) h
-
   -- one of them is enough for some to be left
   pub some-left : a < agents tb → pos st a < rows tb a → allEnded tb st ≡ false
   unfolding allEnded
-  some-left h l = not-all-below (agents tb) (λ b. not (unfinished tb st b)) a h (rw (is-unfinished l))
+  some-left h l = not-all-below (agents tb) (λ b. not (unfinished tb st b)) a h (rw (is-unfinished tb st a l))
 
   -- it has the least late where it is not above that of any unfinished agent's row, and the other way round
   pub is-least : pos st a < rows tb a → InTime tb st (current tb st a .late) → hasLeastLate tb st a ≡ true
   unfolding hasLeastLate
   is-least l h =
-      and-both (unfinished tb st a) (inTime tb st (current tb st a .late)) (is-unfinished l) (time-in tb st (current tb st a .late) h)
+      and-both (unfinished tb st a) (inTime tb st (current tb st a .late)) (is-unfinished tb st a l) (time-in tb st (current tb st a .late) h)
 
   pub least-is : hasLeastLate tb st a ≡ true → (pos st a < rows tb a) × InTime tb st (current tb st a .late)
   unfolding hasLeastLate
   least-is h = (
-    below-its-rows (and-1 (unfinished tb st a) (inTime tb st (current tb st a .late)) h),
+    below-its-rows tb st a (and-1 (unfinished tb st a) (inTime tb st (current tb st a .late)) h),
     in-time tb st (current tb st a .late) (and-2 (unfinished tb st a) (inTime tb st (current tb st a .late)) h),
   )
 
@@ -59,7 +45,7 @@ module _ (tb st : List ℕ) (a : ℕ) where
   pub can-go : (t : ℕ) → Allowed tb st a t → canGo tb st a ≡ true
   unfolding canGo
   can-go t c =
-      and-both (unfinished tb st a) (inTime tb st (soonest tb st a)) (is-unfinished (c .unended))
+      and-both (unfinished tb st a) (inTime tb st (soonest tb st a)) (is-unfinished tb st a (c .unended))
       (time-in tb st (soonest tb st a) (λ b h l. omega (arith, c .late b h l, c .clock, c .early)))
 
   -- and may then be chosen at the soonest
@@ -68,7 +54,7 @@ module _ (tb st : List ℕ) (a : ℕ) where
   goes-soonest low h =
       record {
         agent = low;
-        unended = below-its-rows (and-1 (unfinished tb st a) (inTime tb st (soonest tb st a)) h);
+        unended = below-its-rows tb st a (and-1 (unfinished tb st a) (inTime tb st (soonest tb st a)) h);
         clock = omega arith;
         early = omega arith;
         late = in-time tb st (soonest tb st a) (and-2 (unfinished tb st a) (inTime tb st (soonest tb st a)) h);
@@ -86,17 +72,28 @@ module _ (tb st : List ℕ) (a : ℕ) where
     clock-later h = omega (arith, early-is)
 
 module _ (tb st : List ℕ) where
-  pub all-over : ((b : ℕ) → b < agents tb → rows tb b ≤ pos st b) → allEnded tb st ≡ true
+  pub all-ended : ((b : ℕ) → b < agents tb → rows tb b ≤ pos st b) → allEnded tb st ≡ true
   unfolding allEnded
-  all-over h = all-below (agents tb) (λ b. not (unfinished tb st b)) (λ b l. rw (has-ended tb st b (h b l)))
+  all-ended h = all-below (agents tb) (λ b. not (unfinished tb st b)) (λ b l. rw (has-ended tb st b (h b l)))
 
-  pub over-all : allEnded tb st ≡ true → (b : ℕ) → b < agents tb → rows tb b ≤ pos st b
+  pub each-ended : allEnded tb st ≡ true → (b : ℕ) → b < agents tb → rows tb b ≤ pos st b
   unfolding allEnded
-  over-all e b h = go (decLt (pos st b) (rows tb b))
+  each-ended e b h = go (decLt (pos st b) (rows tb b))
     where
       go : Dec (pos st b < rows tb b) → rows tb b ≤ pos st b
       go (yes l) = absurd (false≢true (sym (some-left tb st b h l) ∙ e))
       go (no n) = omega arith
+
+  -- the one that is picked: none of a lower number has a late that is not greater
+  pub first-least : (a : ℕ) → a < agents tb → pos st a < rows tb a → InTime tb st (current tb st a .late)
+      → ((b : ℕ) → b < a → pos st b < rows tb b → current tb st a .late < current tb st b .late) → pickedAgent tb st ≡ a
+  unfolding pickedAgent
+  first-least a h k least lowest =
+      first-below-is (agents tb) (hasLeastLate tb st) a h (is-least tb st a k least) (λ b l. go b l (hasLeastLate tb st b) refl)
+    where
+      go : (b : ℕ) → b < a → (v : Bool) → hasLeastLate tb st b ≡ v → v ≡ false
+      go b l false e = refl
+      go b l true e = let (live, due) = least-is tb st b e in absurd (omega (arith, due a h k, lowest b l live))
 
   -- an agent is left, and of those that are one has the least late: that one, or one of a lower number with the same late, is picked
   pub picked-is : (a : ℕ) → a < agents tb → hasLeastLate tb st a ≡ true → (pickedAgent tb st < agents tb) × (hasLeastLate tb st (pickedAgent tb st) ≡ true)
@@ -123,23 +120,22 @@ module _ (ls : List ℕ) where
     bounded (inl (e, k)) = omega arith
     bounded (inr (h, e, k, before)) = omega arith
 
+    lowest-on : (least′ : ℕ) → least′ ≤ least → least′ ≤ getD ls b 0 → (j : ℕ) → j < b + 1 → least′ ≤ getD ls j 0
+    lowest-on least′ u v j l = go (ℕ-discrete j b)
+      where
+        go : Dec (j ≡ b) → least′ ≤ getD ls j 0
+        go (yes e) = rw e v
+        go (no n) = omega (arith, f .lowest j (omega arith))
+
     pub least-new : (late a′ least′ : ℕ) → late ≡ getD ls b 0 → late < least → a′ ≡ b → least′ ≡ late → FirstLeast ls (b + 1) a′ least′
     least-new late a′ least′ el h ea em = record {
-      lowest = λ j l. go j l (ℕ-discrete j b);
+      lowest = lowest-on least′ (omega arith) (omega arith);
       found = inr (omega arith, (rw ea (sym el ∙ sym em)), omega (arith, bounded (f .found)), λ j l. omega (arith, f .lowest j (omega arith)));
     }
-      where
-        go : (j : ℕ) → j < b + 1 → Dec (j ≡ b) → least′ ≤ getD ls j 0
-        go j l (yes e) = rw e (omega arith)
-        go j l (no n) = omega (arith, f .lowest j (omega arith))
 
     pub least-kept : (late a′ least′ : ℕ) → late ≡ getD ls b 0 → least ≤ late → a′ ≡ a → least′ ≡ least → FirstLeast ls (b + 1) a′ least′
-    least-kept late a′ least′ el h ea em = record { lowest = λ j l. go j l (ℕ-discrete j b); found = rw (ea, em) (further (f .found)) }
+    least-kept late a′ least′ el h ea em = record { lowest = lowest-on least′ (omega arith) (omega arith); found = rw (ea, em) (further (f .found)) }
       where
-        go : (j : ℕ) → j < b + 1 → Dec (j ≡ b) → least′ ≤ getD ls j 0
-        go j l (yes e) = rw e (omega arith)
-        go j l (no n) = omega (arith, f .lowest j (omega arith))
-
         further : FoundBelow ls b a least → FoundBelow ls (b + 1) a least
         further (inl x) = inl x
         further (inr (h, e, k, before)) = inr (omega arith, e, k, before)
@@ -159,27 +155,12 @@ module _ (tb st ls : List ℕ) (good : goodTable tb ≡ true) (l : Lates tb st l
       go (yes p) (no q) = absurd (omega (arith, no-count tb (table-facts tb good) a (omega arith) h))
       go (no p) q = absurd (omega (arith, l .each a h ∙ late-ended tb a (pos st a) (omega arith)))
 
-  ended-all : ((a : ℕ) → a < 16 → noLate ≤ getD ls a 0) → allEnded tb st ≡ true
-  ended-all h = all-over tb st (λ a k. go a k (decLt (pos st a) (rows tb a)))
+  none-late : ((a : ℕ) → a < 16 → noLate ≤ getD ls a 0) → allEnded tb st ≡ true
+  none-late h = all-ended tb st (λ a k. go a k (decLt (pos st a) (rows tb a)))
     where
       go : (a : ℕ) → a < agents tb → Dec (pos st a < rows tb a) → rows tb a ≤ pos st a
       go a k (yes p) = let q = own-late a k p in absurd (omega (arith, q .0, q .1, h a (omega (arith, few tb good))))
       go a k (no p) = omega arith
-
-  module _ (a : ℕ) (h : a < agents tb) (k : pos st a < rows tb a) where
-    -- an agent below it is not the least where its late is greater
-    not-least : (j : ℕ) → j < agents tb → current tb st a .late < getD ls j 0 → hasLeastLate tb st j ≡ false
-    not-least j q above = go (hasLeastLate tb st j) refl
-      where
-        go : (v : Bool) → hasLeastLate tb st j ≡ v → v ≡ false
-        go false e = refl
-        go true e = let (n, due) = least-is tb st j e in absurd (omega (arith, due a h k, own-late j q n .0))
-
-    first-least : ((b : ℕ) → b < agents tb → pos st b < rows tb b → current tb st a .late ≤ current tb st b .late)
-        → ((j : ℕ) → j < a → current tb st a .late < getD ls j 0) → pickedAgent tb st ≡ a
-    unfolding pickedAgent
-    first-least least before =
-        first-below-is (agents tb) (hasLeastLate tb st) a h (is-least tb st a k least) (λ j q. not-least j (omega arith) (before j q))
 
   -- what the loop has found once all are passed
   module _ (a least : ℕ) (f : FirstLeast ls 16 a least) where
@@ -187,7 +168,7 @@ module _ (tb st ls : List ℕ) (good : goodTable tb ≡ true) (l : Lates tb st l
     all-have-ended e = go (f .found)
       where
         go : FoundBelow ls 16 a least → allEnded tb st ≡ true
-        go (inl (_, none)) = ended-all (λ j h. omega (arith, f .lowest j h))
+        go (inl (_, none)) = none-late (λ j h. omega (arith, f .lowest j h))
         go (inr (h, _, _, _)) = absurd (omega arith)
 
     pub one-picked : a ≢ 16 → Picks tb st a
@@ -199,8 +180,8 @@ module _ (tb st ls : List ℕ) (good : goodTable tb ≡ true) (l : Lates tb st l
             let (q, p) = some-late a h (omega arith) in
             let late = own-late a q p .0 in
             record {
-              some = some-left tb st a q p;
+              left = some-left tb st a q p;
               agent = q;
               unended = p;
-              is = sym (first-least a q p (λ b x y. omega (arith, own-late b x y .0, f .lowest b (omega (arith, few tb good)))) (λ j x. omega (arith, before j x)));
+              is = sym (first-least tb st a q p (λ b x y. omega (arith, own-late b x y .0, f .lowest b (omega (arith, few tb good)))) (λ b x y. omega (arith, before b x, own-late b (omega arith) y .0)));
             }

@@ -1,4 +1,5 @@
--- Vocabulary of the code alone, as Registers is: while choices are worked out the lates of the agents' current rows stand in a list of their own. Assumes nothing.
+-- Vocabulary of the code alone, as Registers is: the lates of the agents' current rows, which stand in a list of their own while choices are worked out, and what the search for the
+-- agent that is picked finds in them. Assumes nothing.
 use mathlib.Core.Path.{_≡_}
 use mathlib.Core.Bool.{Bool, false, cond}
 use mathlib.Core.List.{List}
@@ -29,7 +30,7 @@ aboveNone ls t = allBelow 16 (λ a. leb t (getD ls a 0))
 
 -- some agent is unfinished, and a is the one of them that is picked
 pub record Picks (tb st : List ℕ) (a : ℕ) : Type 0 where
-  pub some : allEnded tb st ≡ false
+  pub left : allEnded tb st ≡ false
   pub agent : a < agents tb
   pub unended : pos st a < rows tb a
   pub is : a ≡ pickedAgent tb st

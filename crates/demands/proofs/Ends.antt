@@ -22,8 +22,8 @@ use Rattle.choices.specs.State.{clock, pos}
 use Rattle.choices.specs.Fit.{unfinished, current}
 use Rattle.choices.specs.Step.{choiceReply, accepted, InTime}
 use Rattle.choices.specs.Pick.{soonest, allEnded, hasLeastLate, pickedAgent}
-use Rattle.choices.proofs.Choice.{allowed as permitted}
-use Rattle.choices.proofs.Pick.{below-its-rows, is-unfinished, some-left, is-least, least-is, all-over, over-all, picked-is}
+use Rattle.choices.proofs.Choice.{below-its-rows, is-unfinished, allowed as permitted}
+use Rattle.choices.proofs.Pick.{some-left, is-least, least-is, all-ended, each-ended, picked-is}
 use Rattle.executive.specs.Calls.{tablePart, statePart, wordsReply, startInto, stepInto, PickOutcome, pickReply, pickFrom}
 use Rattle.executive.proofs.Fitting.{Fits, fits-says}
 use Rattle.executive.proofs.Ready.{both-zero, zero-words, started-ready}
@@ -248,7 +248,7 @@ pick-while-unfinished tb st usable some =
     replied tb st 0 (by-end tb st usable false (some-left (tablePart tb) (statePart st) b h l))
 
 pub pick-at-the-end : PickAtTheEnd
-pick-at-the-end tb st usable = (told (allEnded rules words) refl, λ end. replied tb st 11 (by-end tb st usable true (all-over rules words (over end))))
+pick-at-the-end tb st usable = (told (allEnded rules words) refl, λ end. replied tb st 11 (by-end tb st usable true (all-ended rules words (over end))))
   where
     rules : List ℕ
     rules = tablePart tb
@@ -263,7 +263,7 @@ pick-at-the-end tb st usable = (told (allEnded rules words) refl, λ end. replie
         omega (arith, end b k, position-part tb st usable b k, rows-part tb b (low-lent tb st usable b k))
 
     told : (v : Bool) → allEnded rules words ≡ v → pickFrom tb st .reply ≡ 11 → AllAtTheirEnd tb st
-    told true e _ = ended-part tb st usable (λ b h. omega (arith, over-all rules words e b h, fit rules (usable .0) words (usable .1) .position b h))
+    told true e _ = ended-part tb st usable (λ b h. omega (arith, each-ended rules words e b h, fit rules (usable .0) words (usable .1) .position b h))
     told false e r = absurd (omega (arith, r, replied tb st 0 (by-end tb st usable false e)))
 
 -- ---- lists and loops

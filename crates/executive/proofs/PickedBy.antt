@@ -7,10 +7,10 @@ use Prim.Native.Nat.{ℕ, zero, suc, _<_}
 use native.Mathlib.Decide.{decLt}
 use native.Mathlib.Omega.{arith}
 use Rattle.tables.specs.Layout.{agents}
-use Rattle.tables.proofs.FirstBelow.{first-below-is, first-below-before, first-below-holds}
+use Rattle.tables.proofs.FirstBelow.{first-below-before, first-below-holds}
 use Rattle.choices.specs.Fit.{current}
 use Rattle.choices.specs.Pick.{soonest, allEnded, hasLeastLate, pickedAgent}
-use Rattle.choices.proofs.Pick.{is-least, least-is}
+use Rattle.choices.proofs.Pick.{is-least, least-is, first-least}
 use Rattle.executive.specs.Calls.{tablePart, statePart, wordsReply, PickOutcome, picked, pickReply, pickFrom}
 use Rattle.executive.specs.Laws.{LeastLate}
 use Rattle.executive.proofs.Ready.{Ready, words-zero, then-next}
@@ -67,12 +67,4 @@ module _ (tb st : List ℕ) (a : ℕ) where
       (λ b h. first-below-before (agents tb) (hasLeastLate tb st) b (rw e h))
 
   pub first-picked : LeastLate tb st a → (pickedAgent tb st ≡ a) × (a < agents tb)
-  unfolding pickedAgent
-  first-picked l = (
-    first-below-is (agents tb) (hasLeastLate tb st) a (l .agent) (is-least tb st a (l .unended) (l .least)) (λ b h. go b h (hasLeastLate tb st b) refl),
-    l .agent,
-  )
-    where
-      go : (b : ℕ) → b < a → (v : Bool) → hasLeastLate tb st b ≡ v → v ≡ false
-      go b h false e = refl
-      go b h true e = let (live, due) = least-is tb st b e in absurd (omega (arith, due a (l .agent) (l .unended), l .lowest b h live))
+  first-picked l = (first-least tb st a (l .agent) (l .unended) (l .least) (l .lowest), l .agent)

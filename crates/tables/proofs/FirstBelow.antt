@@ -3,6 +3,7 @@ use mathlib.Core.Path.{_≡_, refl, sym, ap, _∙_}
 use mathlib.Core.Bool.{Bool, true, false, false≢true}
 use Prim.Native.Nat.{ℕ, zero, suc, suc-le-suc, _<_}
 use native.Mathlib.Nat.{not-suc-le-zero, le-of-suc-le-suc}
+use native.Mathlib.Decide.{decLt}
 use native.Mathlib.Omega.{arith}
 use Rattle.tables.specs.Basics.{firstBelow}
 
@@ -25,19 +26,7 @@ first-below-none zero f none = refl
 first-below-none (suc n) f none =
     found n f false (none 0 (omega arith)) ∙ ap suc (first-below-none n (λ i. f (suc i)) (λ i k. none (suc i) (suc-le-suc k)))
 
--- where the test holds of some number below n, it holds of the first
-pub first-below-found : (n : ℕ) (f : ℕ → Bool) (i : ℕ) → i < n → f i ≡ true → (firstBelow n f < n) × (f (firstBelow n f) ≡ true)
-first-below-found zero f i h t = absurd (not-suc-le-zero h)
-first-below-found (suc n) f i h t = go (f 0) refl i h t (first-below-found n (λ j. f (suc j)))
-  where
-    go : (b : Bool) → f 0 ≡ b → (j : ℕ) → j < suc n → f j ≡ true
-        → ((k : ℕ) → k < n → f (suc k) ≡ true → (firstBelow n (λ j. f (suc j)) < n) × (f (suc (firstBelow n (λ j. f (suc j)))) ≡ true))
-        → (firstBelow (suc n) f < suc n) × (f (firstBelow (suc n) f) ≡ true)
-    go true e j l y next = let p = found n f true e in (rw p (omega arith), rw p e)
-    go false e zero l y next = absurd (false≢true (sym e ∙ y))
-    go false e (suc j) l y next = let p = found n f false e in let (low, holds) = next j (le-of-suc-le-suc l) y in (rw p (suc-le-suc low), rw p holds)
-
--- and of none before it
+-- the test holds of none before it,
 pub first-below-before : (n : ℕ) (f : ℕ → Bool) (i : ℕ) → i < firstBelow n f → f i ≡ false
 unfolding firstBelow
 first-below-before zero f i h = absurd (not-suc-le-zero h)
@@ -48,7 +37,7 @@ first-below-before (suc n) f i h = go (f 0) refl i h (first-below-before n (λ j
     go false e zero l next = e
     go false e (suc j) l next = next j (le-of-suc-le-suc (rw (found n f false e) at l))
 
--- where it is below n, the test holds of it
+-- and of it, where it is below n
 pub first-below-holds : (n : ℕ) (f : ℕ → Bool) → firstBelow n f < n → f (firstBelow n f) ≡ true
 unfolding firstBelow
 first-below-holds zero f h = absurd (not-suc-le-zero h)
@@ -57,3 +46,11 @@ first-below-holds (suc n) f h = go (f 0) refl (first-below-holds n (λ j. f (suc
     go : (b : Bool) → f 0 ≡ b → (firstBelow n (λ j. f (suc j)) < n → f (suc (firstBelow n (λ j. f (suc j)))) ≡ true) → f (firstBelow (suc n) f) ≡ true
     go true e next = let p = found n f true e in rw p e
     go false e next = let p = found n f false e in rw p (next (le-of-suc-le-suc (rw p at h)))
+
+-- which it is where the test holds of some number below n
+pub first-below-found : (n : ℕ) (f : ℕ → Bool) (i : ℕ) → i < n → f i ≡ true → (firstBelow n f < n) × (f (firstBelow n f) ≡ true)
+first-below-found n f i h t = go (decLt (firstBelow n f) n)
+  where
+    go : Dec (firstBelow n f < n) → (firstBelow n f < n) × (f (firstBelow n f) ≡ true)
+    go (yes l) = (l, first-below-holds n f l)
+    go (no m) = absurd (false≢true (sym (first-below-before n f i (omega arith)) ∙ t))

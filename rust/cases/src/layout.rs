@@ -45,6 +45,12 @@ pub fn value(agent: usize, row: usize) -> usize {
     mark(AGENTS, 0) + ROWS * agent + row
 }
 
+/// Whether every agent's position is its row count, of words of their full length.
+pub fn all_have_ended(table: &[u32], state: &[u32]) -> bool {
+    let agents = 0..table[AGENT_COUNT] as usize;
+    agents.into_iter().all(|a| state[position(a)] == table[row_count(a)])
+}
+
 #[cfg(test)]
 mod tests {
     use super::*;

@@ -88,9 +88,7 @@ impl Picks {
                 self.bad_both += u64::from(!clock_fits);
             }
             BAD_STATE => {
-                let agents = 0..table[layout::AGENT_COUNT] as usize;
-                let has_ended = |a| state[layout::position(a)] == table[layout::row_count(a)];
-                self.bad_end += u64::from(agents.into_iter().all(has_ended));
+                self.bad_end += u64::from(layout::all_have_ended(table, state));
             }
             AGENT_ENDED => self.origins[origin as usize] += 1,
             _ => {

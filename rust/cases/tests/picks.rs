@@ -107,16 +107,11 @@ fn whole(table: &[u32], state: &[u32]) -> (Vec<u32>, Vec<u32>) {
     (table, state)
 }
 
-fn have_all_ended(table: &[u32], state: &[u32]) -> bool {
-    let agents = 0..table[layout::AGENT_COUNT] as usize;
-    agents.into_iter().all(|a| state[layout::position(a)] == table[layout::row_count(a)])
-}
-
 /// What a faulty board refuses or tells, and how it picks.
 type WrongPick = (&'static str, fn(&[u32], &[u32]) -> Picked);
 const WRONG_PICKS: [WrongPick; 13] = [
     ("11 before 9", |table, state| match quick::pick(table, state) {
-        (BAD_STATE, ..) if have_all_ended(table, state) => (AGENT_ENDED, 0, 0),
+        (BAD_STATE, ..) if layout::all_have_ended(table, state) => (AGENT_ENDED, 0, 0),
         picked => picked,
     }),
     ("9 before 8", |table, state| match quick::pick(table, state) {

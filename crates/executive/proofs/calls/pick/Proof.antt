@@ -73,7 +73,7 @@ returns-3 c =
     let g = c .before .before .before .before .before .before .before .before .before in
     let r = zero-words (g .args .table .now) (g .args .state .now) (sym (c .before .before .before .before .before .before .words-reply .ensures) ∙ c .before .before .before .before .before .if1 .left) in
     let k = c .before .before .picked-agent .ensures .1 (c .before .if2 .left) in
-    pick-goes _ _ (pick-ready (g .args .table .now) (g .args .state .now) r false (k .some)) _ _ (k .is) (c .soonest .ensures)
+    pick-goes _ _ (pick-ready (g .args .table .now) (g .args .state .now) r false (k .left)) _ _ (k .is) (c .soonest .ensures)
 
 pub pick-spec : {M : Type 1} → statement M
 pick-spec =
