@@ -1,5 +1,6 @@
 // The trace program: a table and choice lines on standard input, the trace of their steps on standard output. Where one of them fails it says so on standard
 // error, and a failed read leaves no output at all: a program has no exit status of its own, and `./trace` takes an output without its last line for a failure.
+#![tactic(auto)]
 ghost use Rattle.std.specs.Prelude.{◌≡◌, ◌+◌, length};
 ghost use Rattle.traces.specs.Input.{longest_input};
 ghost use Rattle.traces.specs.Calls.{longest_output};

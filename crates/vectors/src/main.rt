@@ -1,4 +1,5 @@
 // Runs the trace on each file of data/ that the arguments name, and writes the file's name and then its output.
+#![tactic(auto)]
 ghost use Rattle.std.specs.Prelude.{◌≡◌, ◌+◌, length};
 ghost use Rattle.traces.specs.Input.{longest_input};
 ghost use Rattle.traces.specs.Calls.{longest_output};
