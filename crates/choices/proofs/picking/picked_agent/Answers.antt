@@ -1,0 +1,29 @@
+use Rattle.std.proofs.Common.{◌≡◌, ℕ, ◌-◌, refl, subst, ⊎_elim, arith}
+use Rattle.choices.proofs.Pick.{FirstLeast, least_none, least_new, least_kept, all_have_ended, one_picked}
+use Rattle.choices.proofs.picking.picked_agent.Goals as goal
+
+pub loop-b-init : goal.loop-b-init
+loop-b-init c = (least_none _, omega arith)
+
+pub loop-b-preserved : goal.loop-b-preserved
+loop-b-preserved c =
+    let l = c.loop-b in (
+      ⊎_elim
+          (λ w. least_new _ l.b l.a l.least l.invariant.0 _ _ _ refl w.0.taken w.1 w.2)
+          (λ w. least_kept _ l.b l.a l.least l.invariant.0 _ _ _ refl w.0.left w.1 w.2)
+          c.if-late-least.branch,
+      omega arith,
+    )
+
+pub returns : goal.returns
+returns c =
+    let l = c.loop-b in
+    let e : l.b ≡ 16 = omega arith in
+    let ls = c.load_lates-lates.result in
+    let f = subst (λ (n : ℕ). FirstLeast ls n l.a l.least) e l.invariant.0 in (
+      all_have_ended c.args.table.now c.args.state.now ls c.requires.2 c.load_lates-lates.ensures l.a l.least f,
+      one_picked c.args.table.now c.args.state.now ls c.requires.2 c.load_lates-lates.ensures l.a l.least f,
+    )
+
+pub load_lates-lates-requires : goal.load_lates-lates-requires
+load_lates-lates-requires c = c.requires
