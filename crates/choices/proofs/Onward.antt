@@ -84,10 +84,14 @@ way_taken r p j one = go (goes_on_to r p) (onward r p) one
     go : (js : List ℕ) → Onward r p js → OneOf j js → Way r p j
     go js (both (inl k)) (inl e) = way 1 Nothing _ (after_stay r Nothing (holding 1) k (λ z. let h = held 1 in omega arith)) e
     go js (both (inl k)) (inr (inl e)) = way 0 Nothing _ (after_skip r Nothing (holding 0) k (held 0)) e
+    go js (both (inl k)) (inr (inr none)) = absurd none
     go js (both (inr v)) (inl e) = way 0 (Message 0 0 0 0) _ (after_receive r (Message 0 0 0 0) (holding 0) v) e
     go js (both (inr v)) (inr (inl e)) = way 0 Nothing _ (after_receive r Nothing (holding 0) v) e
+    go js (both (inr v)) (inr (inr none)) = absurd none
     go js (far o) (inl e) = way 0 Nothing _ (after_jump r Nothing (holding 0) o) e
+    go js (far o) (inr none) = absurd none
     go js (near o) (inl e) = way 0 Nothing _ refl (e ∙ sym (goes_near r Nothing (holding 0) o))
+    go js (near o) (inr none) = absurd none
 
 -- ---- the agent of an accepted step
 

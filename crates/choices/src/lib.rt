@@ -10,14 +10,14 @@ pub mod picking; // picking.rt: the agent and the time that a caller is given
 pub mod stepping; // stepping.rt: the reply to a choice, and its effect
 
 // An agent's state, which goes in whole and comes back whole.
-#[derive(Drop)]
+#[derive(Clone, Copy)]
 pub struct Agent {
     pub pos: u32,
     pub regs: [u32; REGISTERS],
 }
 
 // The best message so far.
-#[derive(Drop)]
+#[derive(Clone, Copy)]
 pub enum Best {
     Nothing,
     Message {

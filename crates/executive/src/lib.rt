@@ -8,7 +8,7 @@ pub mod calls; // calls.rt: start, step, run and pick on lent words
 
 // How a run ends: its reply, and the count of accepted steps.
 #[repr(C)]
-#[derive(Drop)]
+#[derive(Clone, Copy)]
 pub struct Ran {
     pub reply: u32,
     pub count: u32,
@@ -16,7 +16,7 @@ pub struct Ran {
 
 // The choice that a caller is given: its reply, and the agent and the time, 0 with a refusal.
 #[repr(C)]
-#[derive(Drop)]
+#[derive(Clone, Copy)]
 pub struct Picked {
     pub reply: u32,
     pub agent: u32,

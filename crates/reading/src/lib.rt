@@ -7,7 +7,7 @@ pub mod reading; // reading.rt: the reader
 
 // A reply, with the number of the line that it tells, from 1, or 0.
 #[repr(C)]
-#[derive(Drop)]
+#[derive(Clone, Copy)]
 pub struct Told {
     pub reply: u32,
     pub line: u32,

@@ -50,8 +50,11 @@ rises r p j one = go (goes_on_to r p) (onward r p) one
     go : (js : List ℕ) → Onward r p js → OneOf j js → (p < j) × (j ≤ p + 1 + r.n)
     go js (both o) (inl e) = (omega arith, omega arith)
     go js (both o) (inr (inl e)) = (omega arith, omega arith)
+    go js (both o) (inr (inr none)) = absurd none
     go js (far o) (inl e) = (omega arith, omega arith)
+    go js (far o) (inr none) = absurd none
     go js (near o) (inl e) = (omega arith, omega arith)
+    go js (near o) (inr none) = absurd none
 
 -- ---- rule 7
 

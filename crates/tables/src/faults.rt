@@ -8,7 +8,7 @@ use crate::hex::{digit, field};
 use crate::replies::{ACCEPTED, BAD_CHARACTER, BAD_LENGTH, UNKNOWN_FIRST_BYTE};
 
 // What can be wrong with a line: its characters, then its length, then its kind.
-#[derive(Drop)]
+#[derive(Clone, Copy)]
 pub enum Fault {
     Character,
     Length,
@@ -16,7 +16,7 @@ pub enum Fault {
 }
 
 // A line has no fault, or this one first.
-#[derive(Drop)]
+#[derive(Clone, Copy)]
 pub enum Judged {
     Sound,
     Faulty(Fault),

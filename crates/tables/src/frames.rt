@@ -43,7 +43,7 @@ const KNOWN_IN_TABLES: [usize; 6] = [
 ];
 
 // A line of a table's text: its kind, with the agent's number.
-#[derive(Drop)]
+#[derive(Clone, Copy)]
 pub enum Line {
     Opens(u32),
     Gives(u32),

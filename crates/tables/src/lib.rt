@@ -12,7 +12,7 @@ pub mod faults; // faults.rt: what is wrong with a line
 pub mod frames; // frames.rt: the lines of a table's text
 
 // A row, taken apart.
-#[derive(Drop)]
+#[derive(Clone, Copy)]
 pub struct Row {
     pub op: u32,
     pub x: u32,
@@ -24,7 +24,7 @@ pub struct Row {
 }
 
 // The family that an op is in.
-#[derive(Drop)]
+#[derive(Clone, Copy)]
 pub enum Family {
     Local,
     Move,

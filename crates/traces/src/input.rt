@@ -19,7 +19,7 @@ pub const TIME_AT: usize = 4;
 pub const CHOICE_BYTES: usize = CHOICE_DIGITS + 1;
 
 // Where the table's text ends, and how many lines it has.
-#[derive(Drop)]
+#[derive(Clone, Copy)]
 pub struct TableEnd {
     pub at: usize,
     pub lines: u32,

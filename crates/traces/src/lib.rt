@@ -23,7 +23,7 @@ pub const LONGEST_INPUT: usize = 65536;
 
 // The reply of a trace, and the length of its text.
 #[repr(C)]
-#[derive(Drop)]
+#[derive(Clone, Copy)]
 pub struct TraceReply {
     pub reply: u32,
     pub length: usize,

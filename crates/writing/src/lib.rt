@@ -5,7 +5,7 @@ pub mod writing; // writing.rt: the writer
 
 // A reply, with the length of the table's text; 0 where the table is refused.
 #[repr(C)]
-#[derive(Drop)]
+#[derive(Clone, Copy)]
 pub struct Wrote {
     pub reply: u32,
     pub length: u32,

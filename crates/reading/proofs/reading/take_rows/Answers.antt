@@ -1,0 +1,189 @@
+use mathlib.Core.Path.{◌≡◌, sym, ap, subst, ◌∙◌}
+use mathlib.Core.List.{List, [], ◌∷◌}
+use Prim.Native.Nat.{ℕ, ◌+◌, ◌-◌, ◌^◌, ◌≤◌, ◌<◌}
+use native.Mathlib.Omega.{arith}
+use lib.ListN.{length, set}
+use lib.Seq.{sets}
+use Rattle.tables.specs.Layout.{count_place, row_place}
+use Rattle.tables.specs.Frames.{four_words}
+use Rattle.tables.specs.Heads.{line_at, words_at}
+use Rattle.tables.specs.Rows.{row_reply}
+use Rattle.reading.specs.Reader.{row_in}
+use Rattle.tables.specs.declared.frames.Line.TheVariants.{Opens, Gives}
+use Rattle.reading.proofs.Arms.{no_frame}
+use Rattle.tables.proofs.Heads.{full}
+use Rattle.reading.proofs.Accepted.{agent_below, agent_open}
+use Rattle.reading.proofs.Accepted as Accepted
+use Rattle.reading.proofs.Sound.{placed_sound}
+use Rattle.reading.proofs.RowsRead.{Turn, first_turn, few_lines, opens_line, open_rows, open_turn, gives_line, row_below, row_turn, row_refused, no_line, no_text}
+use Rattle.reading.proofs.Loads.{first_words, open_words, row_words, all_words, no_words_left}
+use Rattle.reading.proofs.reading.take_rows.Goals as goal
+use Rattle.reading.proofs.reading.take_rows.Goals.{After-row_reply-reply, After-word-late, In-Gives, In-Opens}
+
+pub loop-p-init : goal.loop-p-init
+loop-p-init c =    (
+      first_turn c.args.text.now c.requires.0,
+      first_words c.args.text.now _ (length c.args.table.now) c.requires.0 c.requires.1 c.clear.ensures,
+    )
+
+pub sound_line-line-requires : goal.sound_line-line-requires
+sound_line-line-requires c = (c.loop-p-test.true, placed_sound _ _ _ _ c.loop-p.invariant.0.placed)
+
+abbrev text_of : tie.In-loop invariant-loop decreases-loop → List ℕ
+text_of c = c.before.before.before.before.before.before.before.before.args.text.now
+
+opens_here : (c : In-Opens)
+    → line_at (text_of c.before.before.before) c.loop-p.p ≡ Opens c.in-Opens.field-0
+opens_here c = sym c.sound_line-line.ensures ∙ c.in-Opens.is
+
+room : (c : In-Opens)
+    → c.loop-p.p + 37 ≤ length (text_of c.before.before.before)
+room c = (opens_line c.loop-p.invariant.0 (opens_here c)).room
+
+pub put_agent-requires : goal.put_agent-requires
+put_agent-requires c =
+    let t = c.loop-p.invariant in
+    let o = opens_here (goal.at.put_agent-requires c).In-Opens in
+    (t.1.within, (opens_line t.0 o).digits, t.1.words, agent_below _ _ t.1.within t.1.placed o)
+
+pub overflow_add-p : goal.overflow_add-p
+overflow_add-p c = omega (arith, room (goal.at.overflow_add-p c).In-Opens)
+
+pub overflow_add-n : goal.overflow_add-n
+overflow_add-n c = omega (arith, few_lines c.loop-p.invariant.0)
+
+pub overflow_add-a : goal.overflow_add-a
+overflow_add-a c = omega (arith, c.loop-p.invariant.1.placed.agents)
+
+pub rows_next-c-requires : goal.rows_next-c-requires
+rows_next-c-requires c =
+    let t = c.loop-p.invariant.0 in
+    let o = opens_here (goal.at.rows_next-c-requires c).In-Opens in
+    (room (goal.at.rows_next-c-requires c).In-Opens, placed_sound _ _ _ _ (open_turn t o).placed, open_rows t o)
+
+pub loop-p-smaller-in-Opens : goal.loop-p-smaller-in-Opens
+loop-p-smaller-in-Opens c = omega (arith, room (goal.at.loop-p-smaller-in-Opens c).In-Opens)
+
+pub loop-p-preserved-in-Opens : goal.loop-p-preserved-in-Opens
+loop-p-preserved-in-Opens c =
+    let l = c.loop-p in
+    let o = opens_here (goal.at.loop-p-preserved-in-Opens c).In-Opens in (
+      subst
+          (λ (k : ℕ). Turn (text_of (goal.at.loop-p-preserved-in-Opens c).In-loop-p) (l.p + 37) (l.n + 1) k 0)
+          (sym c.rows_next-c.ensures)
+          (open_turn l.invariant.0 o),
+      open_words l.invariant.1 o _ c.put_agent.ensures,
+    )
+
+gives_here : (c : In-Gives)
+    → line_at (text_of c.before.before.before) c.loop-p.p ≡ Gives c.in-Gives.field-0
+gives_here c = sym c.sound_line-line.ensures ∙ c.in-Gives.is
+
+row_room : (c : In-Gives)
+    → c.loop-p.p + 37 ≤ length (text_of c.before.before.before)
+row_room c = (gives_line c.loop-p.invariant.0 (gives_here c)).room
+
+-- said here, where `omega` still reaches the text's length
+row_fits : (c : In-Gives) → c.loop-p.p + 37 < 2 ^ 64
+row_fits c = omega (arith, row_room c)
+
+pub word-code-requires : goal.word-code-requires
+word-code-requires c =
+    let t = c.loop-p.invariant.0 in
+    (t.within, (gives_line t (gives_here ((goal.at.word-code-requires c).In-Gives))).digits, omega arith)
+
+pub word-k-requires : goal.word-k-requires
+word-k-requires c =
+    let t = c.loop-p.invariant.0 in
+    (t.within, (gives_line t (gives_here (goal.at.word-k-requires c).In-Gives)).digits, omega arith)
+
+pub word-early-requires : goal.word-early-requires
+word-early-requires c =
+    let t = c.loop-p.invariant.0 in
+    (t.within, (gives_line t (gives_here (goal.at.word-early-requires c).In-Gives)).digits, omega arith)
+
+pub word-late-requires : goal.word-late-requires
+word-late-requires c =
+    let t = c.loop-p.invariant.0 in
+    (t.within, (gives_line t (gives_here (goal.at.word-late-requires c).In-Gives)).digits, omega arith)
+
+-- the four words are the line's, so the row and its reply are too
+words_are : (c : After-word-late)
+    → let e = c.before.before.before.before in
+    (c.word-code.result ∷ c.word-k.result ∷ c.word-early.result ∷ c.word-late.result ∷ [])
+    ≡ words_at (text_of e.before.before.before) e.before.before.before.before.loop.p
+unfolding four_words
+words_are c =
+    rw (
+      c.word-code.ensures,
+      c.word-k.ensures,
+      c.word-early.ensures,
+      c.word-late.ensures,
+    )
+
+reply_is : (c : After-row_reply-reply)
+    → let e = c.before.before.before.before.before in
+    let l = e.before.before.before.before.loop in
+    row_reply (row_in (words_at (text_of e.before.before.before) l.p)) l.i l.c ≡ c.row_reply-reply.result
+reply_is c =
+    let l = c.loop-p in
+    ap (λ (ws : List ℕ). row_reply (row_in ws) l.i l.c) (sym (words_are c.before)) ∙ sym c.row_reply-reply.ensures
+
+pub overflow_cast-i : goal.overflow_cast-i
+overflow_cast-i c =    omega (arith, row_below c.loop-p.invariant.0 (gives_here (goal.at.overflow_cast-i c).In-Gives))
+
+pub row_reply-reply-requires : goal.row_reply-reply-requires
+row_reply-reply-requires c =    (row_below c.loop-p.invariant.0 (gives_here (goal.at.row_reply-reply-requires c).In-Gives)).0
+
+pub shape_of-table-then-reply-ne-ACCEPTED : goal.shape_of-table-then-reply-ne-ACCEPTED
+shape_of-table-then-reply-ne-ACCEPTED c =    c.loop-p.invariant.1.words ∙ sym c.requires.1
+
+pub returns-then-reply-ne-ACCEPTED : goal.returns-then-reply-ne-ACCEPTED
+returns-then-reply-ne-ACCEPTED c =    (
+      sym (row_refused c.loop-p.invariant.0 (gives_here (goal.at.returns-then-reply-ne-ACCEPTED c).In-Gives) _ (reply_is (goal.at.returns-then-reply-ne-ACCEPTED c).After-row_reply-reply) c.if-reply-ne-ACCEPTED.true),
+      λ z. absurd (c.if-reply-ne-ACCEPTED.true z),
+    )
+
+pub put_row-requires : goal.put_row-requires
+put_row-requires c =    let t = c.loop-p.invariant.1 in
+    let g = gives_here (goal.at.put_row-requires c).In-Gives in
+    (t.words, agent_open _ _ t.within t.placed g, t.placed.agents, Accepted.row_below _ _ t.within t.placed g)
+
+pub overflow_add-p-in-Gives : goal.overflow_add-p-in-Gives
+overflow_add-p-in-Gives c = omega (arith, row_fits (goal.at.overflow_add-p-in-Gives c).In-Gives)
+
+pub overflow_add-n-in-Gives : goal.overflow_add-n-in-Gives
+overflow_add-n-in-Gives c =    omega (arith, few_lines c.loop-p.invariant.0)
+
+pub overflow_add-i : goal.overflow_add-i
+overflow_add-i c =    omega (arith, row_below c.loop-p.invariant.0 (gives_here (goal.at.overflow_add-i c).In-Gives))
+
+pub loop-p-smaller : goal.loop-p-smaller
+loop-p-smaller c = omega (arith, row_room (goal.at.loop-p-smaller c).In-Gives)
+
+pub loop-p-preserved : goal.loop-p-preserved
+loop-p-preserved c =    let l = c.loop-p in
+    (
+      row_turn l.invariant.0 (gives_here (goal.at.loop-p-preserved c).In-Gives) (reply_is (goal.at.loop-p-preserved c).After-row_reply-reply ∙ c.if-reply-ne-ACCEPTED.false),
+      row_words l.invariant.1 (gives_here (goal.at.loop-p-preserved c).In-Gives) _
+          (c.put_row.ensures
+          ∙ ap (λ (ws : List ℕ). sets (set l.table (count_place (l.a - 1)) (l.i + 1)) (row_place (l.a - 1) l.i) ws) (words_are (goal.at.loop-p-preserved c).After-word-late)),
+    )
+
+pub shape_of-table-in_default : goal.shape_of-table-in_default
+shape_of-table-in_default c = c.loop-p.invariant.1.words ∙ sym c.requires.1
+
+pub returns-in_default : goal.returns-in_default
+returns-in_default c =
+    let q = c.sound_line-line in
+    let t = c.loop-p.invariant in
+    let f = ap full (sym q.ensures) ∙ no_frame q.result c.in-Opens.keys3 in
+    (sym (no_line t.0 f), λ z. all_words t.1 f)
+
+pub shape_of-table : goal.shape_of-table
+shape_of-table c = c.loop-p.invariant.1.words ∙ sym c.requires.1
+
+pub returns : goal.returns
+returns c =
+    let t = c.loop-p.invariant in
+    (sym (no_text t.0 c.loop-p-test.false), λ z. no_words_left t.1 c.loop-p-test.false)
