@@ -82,7 +82,7 @@ module _ (tb : List ℕ) (table : Table tb) where
 
     good_accepted : (a t : ℕ) → Good (here st) a t → choice_reply tb st a t ≡ 0
     good_accepted a t g =
-        (choice_is_models tb st table state a t).exact.1 (allowed g.real g.live (record { after = g.after; begun = g.begun; fits = g.fits }))
+        (choice_is_models tb st table state a t).exact.1 (allowed {g = decode tb st} g.real g.live (record { after = g.after; begun = g.begun; fits = g.fits }))
 
     some_choice : (b : ℕ) → b < agents tb → pos st b < rows tb b → (a t : ℕ) × (choice_reply tb st a t ≡ 0)
     some_choice b h l =
