@@ -1,5 +1,6 @@
 // The writer of a table's text: replies 1, 8 and 20, and the bytes of a table that is accepted.
 #![tactic(auto)]
+
 pub mod lines; // lines.rt: the lines of a table
 pub mod writing; // writing.rt: the writer
 

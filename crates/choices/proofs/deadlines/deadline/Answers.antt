@@ -1,4 +1,4 @@
-use Rattle.std.proofs.Common.{◌≡◌, ℕ, ◌-◌, leb, get_or, ap, ◌∙◌, arith}
+use Rattle.std.proofs.Common.{◌≡◌, ℕ, leb, get_or, ap, ◌∙◌, arith}
 use Rattle.tables.specs.Basics.{all_below}
 use Rattle.choices.specs.Lates.{above_none}
 use Rattle.choices.proofs.Lates.{deadline_none, deadline_new, deadline_kept}

@@ -1,4 +1,4 @@
-use Rattle.std.proofs.Common.{◌≡◌, ℕ, ◌-◌, refl, subst, arith}
+use Rattle.std.proofs.Common.{◌≡◌, ℕ, refl, subst, arith}
 use Rattle.choices.proofs.Pick.{FirstLeast, least_none, least_new, least_kept, all_have_ended, one_picked}
 use Rattle.choices.proofs.picking.picked_agent.Goals as goal
 use Rattle.choices.proofs.picking.picked_agent.Goals.{then-late-least, else-late-least}

@@ -15,19 +15,19 @@ returns-then-reply-ne-ACCEPTED c =
     step_stops _ _ _ _ _ (w.ensures ∙ sym (then_first _ _ (λ e. c.if-reply-ne-ACCEPTED.true (w.ensures ∙ e)))) c.if-reply-ne-ACCEPTED.true
 
 pub slice_bounds-take_choices-end : goal.slice_bounds-take_choices-end
-slice_bounds-take_choices-end c =    let r = zero_words c.args.table.now c.args.state.now (sym c.words_reply-reply.ensures ∙ c.if-reply-ne-ACCEPTED.false) in
+slice_bounds-take_choices-end c = let r = zero_words c.args.table.now c.args.state.now (sym c.words_reply-reply.ensures ∙ c.if-reply-ne-ACCEPTED.false) in
     sym (length-take-le 2129 c.args.table.now r.table)
 
 pub slice_bounds-take_choices-end-2 : goal.slice_bounds-take_choices-end-2
-slice_bounds-take_choices-end-2 c =    let r = zero_words c.args.table.now c.args.state.now (sym c.words_reply-reply.ensures ∙ c.if-reply-ne-ACCEPTED.false) in
+slice_bounds-take_choices-end-2 c = let r = zero_words c.args.table.now c.args.state.now (sym c.words_reply-reply.ensures ∙ c.if-reply-ne-ACCEPTED.false) in
     r.state
 
 pub slice_bounds-take_choices-end-3 : goal.slice_bounds-take_choices-end-3
-slice_bounds-take_choices-end-3 c =    let r = zero_words c.args.table.now c.args.state.now (sym c.words_reply-reply.ensures ∙ c.if-reply-ne-ACCEPTED.false) in
+slice_bounds-take_choices-end-3 c = let r = zero_words c.args.table.now c.args.state.now (sym c.words_reply-reply.ensures ∙ c.if-reply-ne-ACCEPTED.false) in
     sym (length-take-le 1105 c.args.state.now r.state)
 
 pub take_choices-q-requires : goal.take_choices-q-requires
-take_choices-q-requires c =    let r = zero_words c.args.table.now c.args.state.now (sym c.words_reply-reply.ensures ∙ c.if-reply-ne-ACCEPTED.false) in
+take_choices-q-requires c = let r = zero_words c.args.table.now c.args.state.now (sym c.words_reply-reply.ensures ∙ c.if-reply-ne-ACCEPTED.false) in
     (length-take-le 2129 c.args.table.now r.table, length-take-le 1105 c.args.state.now r.state, r.good, refl, r.fit)
 
 pub returns : goal.returns

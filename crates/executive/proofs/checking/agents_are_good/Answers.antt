@@ -1,7 +1,5 @@
 use mathlib.Core.Path.{◌≡◌, sym}
 use native.Mathlib.Omega.{arith}
-use mathlib.Core.Bool.{true}
-use Prim.Native.Nat.{◌-◌}
 use Rattle.tables.specs.Layout.{agents}
 use Rattle.tables.proofs.Good.{few, few_rows}
 use Rattle.tables.proofs.Tests.{refused, granted}
@@ -16,7 +14,7 @@ pub loop-a-init : goal.loop-a-init
 loop-a-init c = let low = few c.args.table.now c.requires.2 in (omega arith, omega arith, below_none _)
 
 pub places_are_good-requires : goal.places_are_good-requires
-places_are_good-requires c =    let short = few_rows c.args.table.now c.requires.2 c.loop-a.a (omega arith) in
+places_are_good-requires c = let short = few_rows c.args.table.now c.requires.2 c.loop-a.a (omega arith) in
     omega arith
 
 pub returns-then-not-places_are_good : goal.returns-then-not-places_are_good

@@ -13,20 +13,20 @@ returns-then-row_count-p c =
 
 pub returns-then-not-marks_are_good : goal.returns-then-not-marks_are_good
 unfolding good_places
-returns-then-not-marks_are_good c =    rw (← c.position-p.ensures, ← c.row_count.ensures)
+returns-then-not-marks_are_good c = rw (← c.position-p.ensures, ← c.row_count.ensures)
     (every_go _ _ _ (le-leb _ _ c.if-row_count-p.false)
     (every_stop _ _ (refused _ _ c.marks_are_good.ensures c.if-not-marks_are_good.true)))
 
 pub returns-then-not-all_zero : goal.returns-then-not-all_zero
 unfolding good_places
-returns-then-not-all_zero c =    rw (← c.position-p.ensures, ← c.row_count.ensures, ← c.mark_place-2.ensures, ← c.mark_place.ensures)
+returns-then-not-all_zero c = rw (← c.position-p.ensures, ← c.row_count.ensures, ← c.mark_place-2.ensures, ← c.mark_place.ensures)
     (every_go _ _ _ (le-leb _ _ c.if-row_count-p.false)
     (every_go _ _ _ (granted _ _ c.marks_are_good.ensures c.if-not-marks_are_good.false)
     (every_stop _ _ (refused _ _ c.all_zero.ensures c.if-not-all_zero.true))))
 
 pub returns : goal.returns
 unfolding good_places
-returns c =    rw (← c.position-p.ensures, ← c.row_count.ensures, ← c.mark_place-2.ensures, ← c.mark_place.ensures, ← c.value_place-2.ensures, ← c.value_place.ensures)
+returns c = rw (← c.position-p.ensures, ← c.row_count.ensures, ← c.mark_place-2.ensures, ← c.mark_place.ensures, ← c.value_place-2.ensures, ← c.value_place.ensures)
     (every_go _ _ _ (le-leb _ _ c.if-row_count-p.false)
     (every_go _ _ _ (granted _ _ c.marks_are_good.ensures c.if-not-marks_are_good.false)
     (every_go _ _ _ (granted _ _ c.all_zero.ensures c.if-not-all_zero.false)

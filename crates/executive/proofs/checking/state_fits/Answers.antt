@@ -25,7 +25,7 @@ deadline-requires c = c.load_lates-lates.ensures.size
 
 pub returns-then-deadline-t : goal.returns-then-deadline-t
 unfolding fits
-returns-then-deadline-t c =    let k = c.clock-t in
+returns-then-deadline-t c = let k = c.clock-t in
     rw (← k.ensures)
     (every_go _ _ _ (le-leb _ _ c.if-t-lt1.false)
     (every_go _ _ _ (le-leb _ _ c.if-t-gt-LAST_TIME.false)
@@ -33,7 +33,7 @@ returns-then-deadline-t c =    let k = c.clock-t in
 
 pub returns-then-not-agents_are_good : goal.returns-then-not-agents_are_good
 unfolding fits
-returns-then-not-agents_are_good c =    let k = c.clock-t in
+returns-then-not-agents_are_good c = let k = c.clock-t in
     rw (← k.ensures)
     (every_go _ _ _ (le-leb _ _ c.if-t-lt1.false)
     (every_go _ _ _ (le-leb _ _ c.if-t-gt-LAST_TIME.false)
@@ -41,12 +41,12 @@ returns-then-not-agents_are_good c =    let k = c.clock-t in
     (every_stop _ _ (refused _ _ c.agents_are_good.ensures c.if-not-agents_are_good.true)))))
 
 pub unused_are_zero-requires : goal.unused_are_zero-requires
-unused_are_zero-requires c =    let low = few c.args.table.now c.requires.2 in
+unused_are_zero-requires c = let low = few c.args.table.now c.requires.2 in
     omega arith
 
 pub returns : goal.returns
 unfolding fits
-returns c =    let k = c.clock-t in
+returns c = let k = c.clock-t in
     rw (← k.ensures, ← c.agent_count.ensures)
     (every_go _ _ _ (le-leb _ _ c.if-t-lt1.false)
     (every_go _ _ _ (le-leb _ _ c.if-t-gt-LAST_TIME.false)

@@ -1,6 +1,6 @@
 use mathlib.Core.Path.{◌≡◌, refl, ap, ◌∙◌}
 use mathlib.Core.List.{[], append-nil}
-use Prim.Native.Nat.{◌-◌, zero-le}
+use Prim.Native.Nat.{zero-le}
 use lib.ListN.{replicate}
 use native.Mathlib.Omega.{arith}
 use Rattle.choices.specs.Registers.{listed, with_regs}

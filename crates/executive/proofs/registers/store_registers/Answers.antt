@@ -1,5 +1,5 @@
 use mathlib.Core.Path.{◌≡◌, refl, ◌∙◌}
-use Prim.Native.Nat.{◌-◌, zero-le}
+use Prim.Native.Nat.{zero-le}
 use lib.ListN.{length-set}
 use lib.Seq.{paste-zero}
 use native.Mathlib.Omega.{arith}

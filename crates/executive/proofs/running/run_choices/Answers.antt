@@ -9,7 +9,7 @@ use Rattle.executive.proofs.Fits.{start_fits}
 use Rattle.executive.proofs.running.run_choices.Goals as goal
 
 pub take_choices-requires : goal.take_choices-requires
-take_choices-requires c =    let e = c.put_start.ensures in
+take_choices-requires c = let e = c.put_start.ensures in
     (c.requires.0, rw e (start_length c.args.table.now (omega arith)), c.requires.2, c.requires.3, rw e (start_fits c.args.table.now c.requires.2 c.requires.0))
 
 pub returns : goal.returns

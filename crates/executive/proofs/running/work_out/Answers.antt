@@ -1,5 +1,5 @@
 use mathlib.Core.Path.{refl, sym, ap, ◌∙◌}
-use Prim.Native.Nat.{◌+◌, ◌-◌}
+use Prim.Native.Nat.{◌+◌}
 use native.Mathlib.Omega.{arith}
 use Rattle.tables.proofs.Good.{few}
 use Rattle.choices.specs.Registers.{with_regs}
@@ -14,17 +14,17 @@ load_lates-lates-requires c =
     (c.requires.0, c.requires.1, c.requires.2)
 
 pub loop-i-init : goal.loop-i-init
-loop-i-init c =    record {
-      left = record {
-        read = omega arith;
-        even = refl;
-        long = c.requires.1;
-        wide = omega arith;
-        ends = refl;
-      };
-      lates = c.load_lates-lates.ensures;
-      in_time_lem = zero_above_none _;
-    }
+loop-i-init c = record {
+  left = record {
+    read = omega arith;
+    even = refl;
+    long = c.requires.1;
+    wide = omega arith;
+    ends = refl;
+  };
+  lates = c.load_lates-lates.ensures;
+  in_time_lem = zero_above_none _;
+}
 
 pub deadline_for-deadline-requires : goal.deadline_for-deadline-requires
 deadline_for-deadline-requires c = (c.loop-i.invariant.lates.size, c.loop-i.invariant.in_time_lem)

@@ -1,5 +1,4 @@
 use borrow.Author.Rules.{rules}
-use Prim.Native.Nat.{◌-◌}
 use Rattle.tables.proofs.Tests.{refused, granted}
 use Rattle.reading.proofs.Climbs.{first_row, next_row, goes_back, no_row}
 use Rattle.reading.proofs.climbing.rows_climb.Goals as goal

@@ -1,5 +1,5 @@
 use borrow.Author.Rules.{rules}
-use Prim.Native.Nat.{◌≤◌, ◌<◌, ◌-◌}
+use Prim.Native.Nat.{◌≤◌, ◌<◌}
 use native.Mathlib.Omega.{arith}
 use Rattle.tables.specs.Layout.{agents}
 use Rattle.reading.proofs.Climbs.{first_agent, next_agent, agent_back, no_agent_lem}
@@ -15,13 +15,18 @@ real c = let e = c.agent_count-m.ensures in let l = c.loop-a-test.true in omega 
 
 -- so it has 32 rows at most
 few : (c : After-row_count-c) → c.row_count-c.result ≤ 32
-few c = let e = c.row_count-c.ensures in omega (arith, c.requires.3 _ (real c.before))
+few c =
+    let m = c.agent_count-m.ensures in
+    let t = c.loop-a-test.true in
+    let e = c.row_count-c.ensures in
+    let r : c.loop-a.a < agents c.args.table.now = omega arith in
+    omega (arith, c.requires.3 _ r)
 
 pub returns-then-told-ne-ACCEPTED : goal.returns-then-told-ne-ACCEPTED
-returns-then-told-ne-ACCEPTED c =    agent_back _ _ _ _ _ c.loop-a.invariant.0 (real (goal.at.returns-then-told-ne-ACCEPTED c).In-loop-a) c.row_count-c.ensures _ c.rows_climb-told.ensures c.if-told-ne-ACCEPTED.true
+returns-then-told-ne-ACCEPTED c = agent_back _ _ _ _ _ c.loop-a.invariant.0 (real (goal.at.returns-then-told-ne-ACCEPTED c).In-loop-a) c.row_count-c.ensures _ c.rows_climb-told.ensures c.if-told-ne-ACCEPTED.true
 
 pub loop-a-preserved : goal.loop-a-preserved
-loop-a-preserved c =    let i = c.loop-a.invariant in
+loop-a-preserved c = let i = c.loop-a.invariant in
     let r = few (goal.at.loop-a-preserved c).After-row_count-c in (
       next_agent _ _ _ _ _ i.0 (real (goal.at.loop-a-preserved c).In-loop-a) c.row_count-c.ensures _ c.rows_climb-told.ensures c.if-told-ne-ACCEPTED.false,
       search rules,
@@ -55,7 +60,7 @@ pub overflow_add-line-in-loop-a : goal.overflow_add-line-in-loop-a
 overflow_add-line-in-loop-a c = omega (arith, few (goal.at.overflow_add-line-in-loop-a c).After-row_count-c)
 
 pub overflow_add-line-in-loop-a-2 : goal.overflow_add-line-in-loop-a-2
-overflow_add-line-in-loop-a-2 c =    let i = c.loop-a.invariant in
+overflow_add-line-in-loop-a-2 c = let i = c.loop-a.invariant in
     let r = real (goal.at.overflow_add-line-in-loop-a-2 c).In-loop-a in
     let p = c.requires in
     omega (arith, few (goal.at.overflow_add-line-in-loop-a-2 c).After-row_count-c, p.1, p.2)

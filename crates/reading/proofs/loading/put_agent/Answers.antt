@@ -12,7 +12,7 @@ put_words-requires c = simp length-set (omega arith)
 pub shape_of-table : goal.shape_of-table
 shape_of-table c =
     let g = c.args in
-    c.put_words.auto.0 ∙ length-set g.table.now agents_place (g.a + 1)
+    c.put_words.auto.table ∙ length-set g.table.now agents_place (g.a + 1)
 
 pub returns : goal.returns
 unfolding four_words

@@ -8,8 +8,8 @@ pub put_words-requires : goal.put_words-requires
 put_words-requires c = simp length-set (omega arith)
 
 pub shape_of-table : goal.shape_of-table
-shape_of-table c =    let g = c.args in
-    c.put_words.auto.0 ∙ length-set g.table.now c.count_place.result (g.i + 1)
+shape_of-table c = let g = c.args in
+    c.put_words.auto.table ∙ length-set g.table.now c.count_place.result (g.i + 1)
 
 pub returns : goal.returns
 returns c =

@@ -1,5 +1,5 @@
 use mathlib.Core.Path.{◌≡◌, refl, sym, ap, ◌∙◌}
-use Prim.Native.Nat.{ℕ, ◌+◌, ◌-◌, ◌≤◌}
+use Prim.Native.Nat.{ℕ, ◌+◌, ◌≤◌}
 use native.Mathlib.Omega.{arith}
 use lib.ListN.{length}
 use Rattle.tables.specs.Heads.{line_at}
@@ -25,12 +25,12 @@ gives_here c = sym c.line_at-line.ensures ∙ c.in-Gives.is
 opens_room : (c : Else-not-may_open) → let l = c.loop-p in l.p + 37 ≤ length c.args.text.now
 opens_room c =
     let l = c.loop-p in
-    (framed c.args.text.now l.p l.invariant.0 (Opens _) (opens_here c.before) refl).room
+    (framed c.args.text.now l.p l.invariant.0 (Opens _) (sym c.line_at-line.ensures ∙ c.in-Opens.is) refl).room
 
 gives_room : (c : Else-not-may_give) → let l = c.loop-p in l.p + 37 ≤ length c.args.text.now
 gives_room c =
     let l = c.loop-p in
-    (framed c.args.text.now l.p l.invariant.0 (Gives _) (gives_here c.before) refl).room
+    (framed c.args.text.now l.p l.invariant.0 (Gives _) (sym c.line_at-line.ensures ∙ c.in-Gives.is) refl).room
 
 pub loop-p-init : goal.loop-p-init
 loop-p-init c = (omega arith, omega arith, omega arith, omega arith, omega arith, refl)
@@ -110,7 +110,7 @@ returns-in-Malformed c =
     let l = c.loop-p in
     let g = c.args in
     let e = sym c.line_at-line.ensures ∙ c.in-Malformed.is in
-    ap (λ (r : ℕ). told r l.n) c.Line-Reply.ensures
+    ap (λ (r : ℕ). told r l.n) c.line_reply.ensures
     ∙ sym (l.invariant.5 ∙ broken g.text.now l.p l.invariant.0 l.n l.a l.i e c.loop-p-test.true)
 
 pub returns : goal.returns

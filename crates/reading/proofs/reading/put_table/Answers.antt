@@ -9,10 +9,10 @@ use Rattle.tables.specs.Layout.{table_words}
 use Rattle.reading.proofs.reading.put_table.Goals as goal
 
 pub slice_bounds-copy-end-2 : goal.slice_bounds-copy-end-2
-slice_bounds-copy-end-2 c =    sym (length-take-le table_words c.args.table.now c.requires.1)
+slice_bounds-copy-end-2 c = sym (length-take-le table_words c.args.table.now c.requires.1)
 
 pub copy-requires : goal.copy-requires
-copy-requires c =    length-take-le table_words c.args.table.now c.requires.1 ∙ sym c.requires.0
+copy-requires c = length-take-le table_words c.args.table.now c.requires.1 ∙ sym c.requires.0
 
 put : (new words tb : List ℕ) → new ≡ words → new ++ drop table_words tb ≡ words ++ drop table_words tb
 put new words tb e = ap (λ (l : List ℕ). l ++ drop table_words tb) e

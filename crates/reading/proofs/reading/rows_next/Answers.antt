@@ -1,6 +1,5 @@
 use mathlib.Core.Path.{◌≡◌, refl, sym, ap, ◌∙◌}
-use mathlib.Core.Bool.{true}
-use Prim.Native.Nat.{◌+◌, ◌-◌, ◌≤◌}
+use Prim.Native.Nat.{◌+◌, ◌≤◌}
 use native.Mathlib.Omega.{arith}
 use lib.ListN.{length, drop}
 use Rattle.tables.specs.Frames.{frames_of}
@@ -49,10 +48,9 @@ loop-p-preserved c =
 pub returns-in_default : goal.returns-in_default
 returns-in_default c =
     let l = c.loop-p in
-    let g = c.args in
     let q = c.sound_line-line in
-    let e = ap is_gives (sym q.ensures) ∙ no_gives q.result c.in-Gives.keys2 in
-    let z = no_row_next g.text.now l.p l.invariant.0 e in
+    let e = ap is_gives (sym q.ensures) ∙ no_gives q.result c.in_default.not-Gives in
+    let z = no_row_next c.args.text.now l.p l.invariant.0 e in
     omega arith
 
 pub returns : goal.returns

@@ -21,23 +21,20 @@ use Rattle.reading.proofs.reading.take_rows.Goals as goal
 use Rattle.reading.proofs.reading.take_rows.Goals.{After-row_reply-reply, After-word-late, In-Gives, In-Opens}
 
 pub loop-p-init : goal.loop-p-init
-loop-p-init c =    (
-      first_turn c.args.text.now c.requires.0,
-      first_words c.args.text.now _ (length c.args.table.now) c.requires.0 c.requires.1 c.clear.ensures,
-    )
+loop-p-init c = (
+  first_turn c.args.text.now c.requires.0,
+  first_words c.args.text.now _ (length c.args.table.now) c.requires.0 c.requires.1 c.clear.ensures,
+)
 
 pub sound_line-line-requires : goal.sound_line-line-requires
 sound_line-line-requires c = (c.loop-p-test.true, placed_sound _ _ _ _ c.loop-p.invariant.0.placed)
 
-abbrev text_of : tie.In-loop invariant-loop decreases-loop → List ℕ
-text_of c = c.before.before.before.before.before.before.before.before.args.text.now
-
 opens_here : (c : In-Opens)
-    → line_at (text_of c.before.before.before) c.loop-p.p ≡ Opens c.in-Opens.field-0
+    → line_at c.args.text.now c.loop-p.p ≡ Opens c.in-Opens.field-0
 opens_here c = sym c.sound_line-line.ensures ∙ c.in-Opens.is
 
 room : (c : In-Opens)
-    → c.loop-p.p + 37 ≤ length (text_of c.before.before.before)
+    → c.loop-p.p + 37 ≤ length c.args.text.now
 room c = (opens_line c.loop-p.invariant.0 (opens_here c)).room
 
 pub put_agent-requires : goal.put_agent-requires
@@ -69,18 +66,18 @@ loop-p-preserved-in-Opens c =
     let l = c.loop-p in
     let o = opens_here (goal.at.loop-p-preserved-in-Opens c).In-Opens in (
       subst
-          (λ (k : ℕ). Turn (text_of (goal.at.loop-p-preserved-in-Opens c).In-loop-p) (l.p + 37) (l.n + 1) k 0)
+          (λ (k : ℕ). Turn c.args.text.now (l.p + 37) (l.n + 1) k 0)
           (sym c.rows_next-c.ensures)
           (open_turn l.invariant.0 o),
       open_words l.invariant.1 o _ c.put_agent.ensures,
     )
 
 gives_here : (c : In-Gives)
-    → line_at (text_of c.before.before.before) c.loop-p.p ≡ Gives c.in-Gives.field-0
+    → line_at c.args.text.now c.loop-p.p ≡ Gives c.in-Gives.field-0
 gives_here c = sym c.sound_line-line.ensures ∙ c.in-Gives.is
 
 row_room : (c : In-Gives)
-    → c.loop-p.p + 37 ≤ length (text_of c.before.before.before)
+    → c.loop-p.p + 37 ≤ length c.args.text.now
 row_room c = (gives_line c.loop-p.invariant.0 (gives_here c)).room
 
 -- said here, where `omega` still reaches the text's length
@@ -109,9 +106,8 @@ word-late-requires c =
 
 -- the four words are the line's, so the row and its reply are too
 words_are : (c : After-word-late)
-    → let e = c.before.before.before.before in
-    (c.word-code.result ∷ c.word-k.result ∷ c.word-early.result ∷ c.word-late.result ∷ [])
-    ≡ words_at (text_of e.before.before.before) e.before.before.before.before.loop.p
+    → (c.word-code.result ∷ c.word-k.result ∷ c.word-early.result ∷ c.word-late.result ∷ [])
+    ≡ words_at c.args.text.now c.loop-p.p
 unfolding four_words
 words_are c =
     rw (
@@ -121,31 +117,29 @@ words_are c =
       c.word-late.ensures,
     )
 
-reply_is : (c : After-row_reply-reply)
-    → let e = c.before.before.before.before.before in
-    let l = e.before.before.before.before.loop in
-    row_reply (row_in (words_at (text_of e.before.before.before) l.p)) l.i l.c ≡ c.row_reply-reply.result
-reply_is c =
-    let l = c.loop-p in
-    ap (λ (ws : List ℕ). row_reply (row_in ws) l.i l.c) (sym (words_are c.before)) ∙ sym c.row_reply-reply.ensures
+reply_is : (c : After-row_reply-reply) → (ws : List ℕ)
+    → (c.word-code.result ∷ c.word-k.result ∷ c.word-early.result ∷ c.word-late.result ∷ []) ≡ ws
+    → row_reply (row_in ws) c.loop-p.i c.loop-p.c ≡ c.row_reply-reply.result
+reply_is c ws e =
+    ap (λ (ws : List ℕ). row_reply (row_in ws) c.loop-p.i c.loop-p.c) (sym e) ∙ sym c.row_reply-reply.ensures
 
 pub overflow_cast-i : goal.overflow_cast-i
-overflow_cast-i c =    omega (arith, row_below c.loop-p.invariant.0 (gives_here (goal.at.overflow_cast-i c).In-Gives))
+overflow_cast-i c = omega (arith, row_below c.loop-p.invariant.0 (gives_here (goal.at.overflow_cast-i c).In-Gives))
 
 pub row_reply-reply-requires : goal.row_reply-reply-requires
-row_reply-reply-requires c =    (row_below c.loop-p.invariant.0 (gives_here (goal.at.row_reply-reply-requires c).In-Gives)).0
+row_reply-reply-requires c = (row_below c.loop-p.invariant.0 (gives_here (goal.at.row_reply-reply-requires c).In-Gives)).0
 
 pub shape_of-table-then-reply-ne-ACCEPTED : goal.shape_of-table-then-reply-ne-ACCEPTED
-shape_of-table-then-reply-ne-ACCEPTED c =    c.loop-p.invariant.1.words ∙ sym c.requires.1
+shape_of-table-then-reply-ne-ACCEPTED c = c.loop-p.invariant.1.words ∙ sym c.requires.1
 
 pub returns-then-reply-ne-ACCEPTED : goal.returns-then-reply-ne-ACCEPTED
-returns-then-reply-ne-ACCEPTED c =    (
-      sym (row_refused c.loop-p.invariant.0 (gives_here (goal.at.returns-then-reply-ne-ACCEPTED c).In-Gives) _ (reply_is (goal.at.returns-then-reply-ne-ACCEPTED c).After-row_reply-reply) c.if-reply-ne-ACCEPTED.true),
-      λ z. absurd (c.if-reply-ne-ACCEPTED.true z),
-    )
+returns-then-reply-ne-ACCEPTED c = (
+  sym (row_refused c.loop-p.invariant.0 (gives_here (goal.at.returns-then-reply-ne-ACCEPTED c).In-Gives) _ (reply_is (goal.at.returns-then-reply-ne-ACCEPTED c).After-row_reply-reply _ (words_are (goal.at.returns-then-reply-ne-ACCEPTED c).After-word-late)) c.if-reply-ne-ACCEPTED.true),
+  λ z. absurd (c.if-reply-ne-ACCEPTED.true z),
+)
 
 pub put_row-requires : goal.put_row-requires
-put_row-requires c =    let t = c.loop-p.invariant.1 in
+put_row-requires c = let t = c.loop-p.invariant.1 in
     let g = gives_here (goal.at.put_row-requires c).In-Gives in
     (t.words, agent_open _ _ t.within t.placed g, t.placed.agents, Accepted.row_below _ _ t.within t.placed g)
 
@@ -153,22 +147,21 @@ pub overflow_add-p-in-Gives : goal.overflow_add-p-in-Gives
 overflow_add-p-in-Gives c = omega (arith, row_fits (goal.at.overflow_add-p-in-Gives c).In-Gives)
 
 pub overflow_add-n-in-Gives : goal.overflow_add-n-in-Gives
-overflow_add-n-in-Gives c =    omega (arith, few_lines c.loop-p.invariant.0)
+overflow_add-n-in-Gives c = omega (arith, few_lines c.loop-p.invariant.0)
 
 pub overflow_add-i : goal.overflow_add-i
-overflow_add-i c =    omega (arith, row_below c.loop-p.invariant.0 (gives_here (goal.at.overflow_add-i c).In-Gives))
+overflow_add-i c = omega (arith, row_below c.loop-p.invariant.0 (gives_here (goal.at.overflow_add-i c).In-Gives))
 
 pub loop-p-smaller : goal.loop-p-smaller
 loop-p-smaller c = omega (arith, row_room (goal.at.loop-p-smaller c).In-Gives)
 
 pub loop-p-preserved : goal.loop-p-preserved
-loop-p-preserved c =    let l = c.loop-p in
-    (
-      row_turn l.invariant.0 (gives_here (goal.at.loop-p-preserved c).In-Gives) (reply_is (goal.at.loop-p-preserved c).After-row_reply-reply ∙ c.if-reply-ne-ACCEPTED.false),
-      row_words l.invariant.1 (gives_here (goal.at.loop-p-preserved c).In-Gives) _
-          (c.put_row.ensures
-          ∙ ap (λ (ws : List ℕ). sets (set l.table (count_place (l.a - 1)) (l.i + 1)) (row_place (l.a - 1) l.i) ws) (words_are (goal.at.loop-p-preserved c).After-word-late)),
-    )
+loop-p-preserved c = let l = c.loop-p in (
+  row_turn l.invariant.0 (gives_here (goal.at.loop-p-preserved c).In-Gives) (reply_is (goal.at.loop-p-preserved c).After-row_reply-reply _ (words_are (goal.at.loop-p-preserved c).After-word-late) ∙ c.if-reply-ne-ACCEPTED.false),
+  row_words l.invariant.1 (gives_here (goal.at.loop-p-preserved c).In-Gives) _
+      (c.put_row.ensures
+      ∙ ap (λ (ws : List ℕ). sets (set l.table (count_place (l.a - 1)) (l.i + 1)) (row_place (l.a - 1) l.i) ws) (words_are (goal.at.loop-p-preserved c).After-word-late)),
+)
 
 pub shape_of-table-in_default : goal.shape_of-table-in_default
 shape_of-table-in_default c = c.loop-p.invariant.1.words ∙ sym c.requires.1
@@ -177,7 +170,7 @@ pub returns-in_default : goal.returns-in_default
 returns-in_default c =
     let q = c.sound_line-line in
     let t = c.loop-p.invariant in
-    let f = ap full (sym q.ensures) ∙ no_frame q.result c.in-Opens.keys3 in
+    let f = ap full (sym q.ensures) ∙ no_frame q.result c.in_default.not-Opens c.in_default.not-Gives in
     (sym (no_line t.0 f), λ z. all_words t.1 f)
 
 pub shape_of-table : goal.shape_of-table
