@@ -7,7 +7,7 @@
  * decided by the table and the state; in whatever order the choices come, each agent passes through
  * the same states.
  *
- * Link with libboard.a, for x86-64, which `tools/proved archive` writes to target/staticlib in the
+ * Link with libboard.a, for x86-64, which `tools/proved archive` writes to crates/board/out in the
  * repository. It takes memcpy and memset from the C library, and nothing else. Installed, by
  * `tools/install PREFIX`, it is libtannoplex.a, and pkg-config knows it as tannoplex. The replies in
  * words are a C file of their own, tannoplex_replies.c.

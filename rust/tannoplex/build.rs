@@ -55,7 +55,7 @@ fn proved(root: &Path) -> Result<PathBuf, String> {
     // hold, where cargo would go by their times.
     println!("cargo:rerun-if-changed={}", root.join("target/always").display());
     match Command::new(root.join("tools/proved")).arg("archive").status() {
-        Ok(status) if status.success() => Ok(root.join("target/staticlib")),
+        Ok(status) if status.success() => Ok(root.join("crates/board/out")),
         _ => Err(format!(
             "tools/proved archive failed: the archive of the proved library cannot be built. \
              Set {FOLDER} to a folder that has one to link that as it is."

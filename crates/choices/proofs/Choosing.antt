@@ -11,7 +11,7 @@ use Rattle.tables.specs.declared.Row.{Row}
 use Rattle.tables.proofs.Passed.{below_same}
 use Rattle.tables.proofs.Good.{few, few_rows, formed}
 use Rattle.choices.specs.declared.Agent.{Agent}
-use Rattle.choices.specs.State.{Pool, pos, mark, value, pool, agent_at, pos_place, reg_place, mark_place, value_place}
+use Rattle.choices.specs.State.{Pool, pos, pool, agent_at, pos_place, reg_place, mark_place, value_place}
 use Rattle.choices.specs.Messages.{best}
 use Rattle.choices.specs.Effect.{after}
 use Rattle.choices.specs.Fit.{unfinished, in_time}

@@ -1,5 +1,6 @@
 // One choice of a good table: its reply, what the accepted one does to the words of a state, and one that is accepted.
 #![tactic(auto)]
+
 use tables::layout::REGISTERS;
 
 pub mod layout; // layout.rt: where each thing stands in the words of a state

@@ -2,12 +2,12 @@
 use mathlib.Core.Path.{◌≡◌, refl, sym, ap, ap₂, subst, ◌∙◌}
 use mathlib.Core.Bool.{Bool, true, false, not, cond, true≢false}
 use mathlib.Core.List.{List, [], ◌∷◌}
-use mathlib.Core.Logic.{◌≢◌, ⊎_elim}
+use mathlib.Core.Logic.{⊎_elim}
 use Prim.Native.Nat.{ℕ, zero, suc, zero-le, max, ◌-◌, ◌≤◌, ◌<◌}
 use native.Mathlib.Omega.{arith}
 use lib.Dec.{leb}
 use borrow.Author.Tests.{leb-true, leb-false, lt-leb, not-false}
-use Rattle.pharos.specs.Model.{Model, System, Good, step, start, ◌▸◌}
+use Rattle.pharos.specs.Model.{Model, System, Good, start, ◌▸◌}
 use Rattle.pharos.specs.Runs.{total, Ready, work, Windows, Nearer}
 use Rattle.pharos.proofs.Instance.{model, system, picked, executes_is_step}
 use Rattle.pharos.proofs.Progress.{least, least_may, progress}
@@ -82,7 +82,7 @@ module _ (tb : List ℕ) (table : Table tb) where
 
     good_accepted : (a t : ℕ) → Good (here st) a t → choice_reply tb st a t ≡ 0
     good_accepted a t g =
-        (choice_is_models tb st table state a t).exact.1 (allowed g.real g.live (record { after = g.after; begun = g.begun; fits = g.fits }))
+        (choice_is_models tb st table state a t).exact.1 (allowed {g = decode tb st} g.real g.live (record { after = g.after; begun = g.begun; fits = g.fits }))
 
     some_choice : (b : ℕ) → b < agents tb → pos st b < rows tb b → (a t : ℕ) × (choice_reply tb st a t ≡ 0)
     some_choice b h l =

@@ -1,5 +1,6 @@
 // Text of upper-case hexadecimal digits, put into a lent buffer from a place on. (The digits that are read are in tables/src/hex.rt.)
 #![tactic(auto)]
+
 ghost use Rattle.std.specs.Prelude.{◌≡◌, [], ◌∷◌, ◌+◌, ◌≤◌, ◌<◌, length};
 ghost use Rattle.std.proofs.lemmas.List.Edits.{sets};
 ghost use Rattle.digits.specs.Hex.{hex_char, hex_digits, hex_words};

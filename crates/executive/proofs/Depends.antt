@@ -10,7 +10,7 @@ use lib.ListN.{length}
 use Rattle.tables.specs.Layout.{agents, rows, row}
 use Rattle.tables.specs.Table.{good_table}
 use Rattle.tables.specs.declared.Row.{Row}
-use Rattle.choices.specs.State.{pos, mark, Pool, pool, agent_at}
+use Rattle.choices.specs.State.{mark, Pool, pool, agent_at}
 use Rattle.choices.specs.Messages.{visible, look, look_rows, look_agents, best}
 use Rattle.choices.specs.Effect.{after}
 use Rattle.choices.specs.Fit.{fits, current}

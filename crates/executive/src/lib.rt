@@ -1,5 +1,6 @@
 // The executive: the start state, one step, a run over a list of choices and a choice that is accepted, on lent words.
 #![tactic(auto)]
+
 pub mod starting; // starting.rt: the start state of a table
 mod checking; // checking.rt: whether a state fits a table
 pub mod registers; // registers.rt: the registers of all agents, out of a state's words and back into them

@@ -24,6 +24,7 @@ module _ (T : Types) where
 
   no_later : {g h : SystemState T} (r : Behaviour T g h) (s : SystemState T) → s ∈ history T r → s.t ≤ h.t
   no_later no_steps s (inl p) = omega (arith, ap (λ (s : SystemState T). s.t) p)
+  no_later {g = g} no_steps s (inr q) = elim q [ ]
   no_later (append r e) s (inl p) = omega (arith, ap (λ (s : SystemState T). s.t) p)
   no_later (append r e) s (inr q) = omega (arith, no_later r s q, e.good.after)
 
@@ -88,6 +89,7 @@ module _ (T : Types) where
 
     done : {g h : SystemState T} (r : Behaviour T g h) → s ∈ project T (history T r) b → (s ≡ h.st b) ⊎ Executed (h.st b) (h.msgs b)
     done no_steps (inl p) = inl p
+    done {g = g} no_steps (inr q) = elim q [ ]
     done (append r e) (inl p) = inl p
     done (append {h} r e) (inr q) =
         by_executes e b (λ u x. (s ≡ u) ⊎ Executed u x) (λ mine. inr (next mine (done r q))) (done r q)

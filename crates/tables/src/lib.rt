@@ -1,6 +1,7 @@
 // Tables of rows: their words, the rules of a row, the check of a table, and the lines of a text.
 // Everything above relies only on what this crate promises.
 #![tactic(auto)]
+
 pub mod replies; // replies.rt: the numbers of the replies
 pub mod layout; // layout.rt: where each thing stands in the words of a table
 pub mod words; // words.rt: words that are 0, made 0, or taken from others

@@ -16,11 +16,11 @@ counts n l h = record { within = h; counted = sym (length-take-le n l h) }
 
 -- both of what a trace ensures
 abbrev pub Done : (input out : List ℕ) (r n : ℕ) (after : List ℕ) → Type 0
-Done input out r n after = WroteTrace input out r n after × Counts n after
+Done input out r n after = record { wrote : WroteTrace input out r n after; counts : Counts n after }
 
 pub too_short : (input out : List ℕ) → length out < longest_output → Done input out 1 0 out
 unfolding trace_into
-too_short input out h = (rw (lt-ltb (length out) longest_output h, trace_into), counts 0 out (omega arith))
+too_short input out h = record { wrote = rw (lt-ltb (length out) longest_output h, trace_into); counts = counts 0 out (omega arith) }
 
 module _ (input out : List ℕ) (r n : ℕ) (after : List ℕ) (long : longest_output ≤ length out) where
   pub done : (q : Traced) → trace_of input ≡ q → trace_outcome r n after ≡ written q out → Done input out r n after
@@ -28,7 +28,7 @@ module _ (input out : List ℕ) (r n : ℕ) (after : List ℕ) (long : longest_o
   done q e f =
       let k : n ≡ length q.bytes = ap (λ (x : TraceOutcome). x.length) f in
       let a : length after ≡ length q.bytes + length (drop (length q.bytes) out) = ap (λ (x : TraceOutcome). length x.out) f ∙ length-append q.bytes _ in
-      (f ∙ rw (le-ltb (length out) longest_output long, trace_into) (ap (λ (x : Traced). written x out) (sym e)), counts n after (omega arith))
+      record { wrote = f ∙ rw (le-ltb (length out) longest_output long, trace_into) (ap (λ (x : Traced). written x out) (sym e)); counts = counts n after (omega arith) }
 
   -- where the last line is the only one
   pub one_line : (reply k : ℕ) → trace_of input ≡ traced reply (last_line reply k) → trace_outcome r n after ≡ placed (traced reply (last_line reply k)) 0 out

@@ -1,10 +1,18 @@
 // Runs the trace on each file of data/ that the arguments name, and writes the file's name and then its output.
 #![tactic(auto)]
-ghost use Rattle.std.specs.Prelude.{◌≡◌, ◌+◌, length};
+
+ghost use Rattle.std.specs.Prelude.{◌≡◌, ◌+◌, ◌≤◌, IfOk, length};
 ghost use Rattle.traces.specs.Input.{longest_input};
 ghost use Rattle.traces.specs.Calls.{longest_output};
 
+use std::env::{Env, FillError};
+use std::fs::File;
+use std::io;
+use std::io::{Read, Write};
 use traces::{LONGEST_INPUT, LONGEST_OUTPUT};
+
+// The longest name that a file can be opened by.
+const LONGEST_NAME: usize = 4096;
 
 // One byte more than an input may have, so that a longer one can be told.
 fn input_buffer() -> [u8; LONGEST_INPUT + 1]
@@ -20,37 +28,58 @@ fn output_buffer() -> [u8; LONGEST_OUTPUT]
     [0; LONGEST_OUTPUT]
 }
 
+// Reads until the buffer is full or the reader at its end, and returns how many bytes that were.
+fn read_full<R: Read>(reader: &mut R, buffer: &mut [u8]) -> io::Result<usize>
+    ensures { IfOk result (λ n. n ≤ length buffer.new) }
+{
+    let mut at = 0;
+    while at < buffer.len() {
+        let n = reader.read(&mut buffer[at..])?;
+        if n == 0 {
+            return Ok(at);
+        }
+        at += n;
+    }
+    Ok(at)
+}
+
 // The output for an open file.
-fn trace_file(file: i32) {
+fn trace_file(rt: &HostRuntime, mut file: File) -> io::Result<()> {
     let mut input = input_buffer();
-    let n = io::read_full(file, &mut input);
+    let n = read_full(&mut file, &mut input)?;
     let mut out = output_buffer();
     let told = traces::trace(&input[..n], &mut out);
     let m = told.length;
-    io::write_all(1, &out[..m]);
+    rt.stdout().write_all(&out[..m])
 }
 
-// The name and the output of the file that argument i names.
-fn run_vector(i: usize) {
-    let mut path = io::buffer();
-    let length = os::arg(i, &mut path);
-    io::write_all(1, b"# ");
-    io::write_all(1, &path[..length]);
-    io::write_all(1, b"\n");
-    let file = os::open_read(&path[..length]);
-    if file < 0 {
-        io::write_all(1, b"no such file\n");
-        return;
-    }
-    trace_file(file);
-    libc::close(file);
+// Opens the file of this name, which is text.
+fn open(rt: &HostRuntime, name: &[u8]) -> Option<File> {
+    let path = str::from_utf8(name).ok()?;
+    File::open(rt, path).ok()
 }
 
-fn main() {
-    let count = os::arg_count();
-    let mut i = 1;
-    while i < count {
-        run_vector(i);
-        i += 1;
+// The name and the output of the file of this name.
+fn run_vector(rt: &HostRuntime, name: &[u8]) -> io::Result<()> {
+    let mut stdout = rt.stdout();
+    stdout.write_all(b"# ")?;
+    stdout.write_all(name)?;
+    stdout.write_all(b"\n")?;
+    match open(rt, name) {
+        Some(file) => trace_file(rt, file),
+        None => stdout.write_all(b"no such file\n"),
     }
+}
+
+fn main(rt: HostRuntime) -> io::Result<()> {
+    let mut name = [0; LONGEST_NAME];
+    for i in 1..usize::MAX {
+        match rt.arg(i, &mut name) {
+            Ok(n) => run_vector(&rt, &name[..n])?,
+            // No file has a name as long as that.
+            Err(FillError::TooLong) => run_vector(&rt, b"")?,
+            Err(FillError::NotPresent) => break,
+        }
+    }
+    Ok(())
 }

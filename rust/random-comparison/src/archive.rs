@@ -25,7 +25,7 @@ fn runner() -> Result<Vec<String>, String> {
         Ok(told) if told.status.success() => {
             Ok(String::from_utf8_lossy(&told.stdout).lines().map(str::to_string).collect())
         }
-        _ => Err("tools/x86 names no emulator for target/bin/trace".to_string()),
+        _ => Err("tools/x86 names no emulator for crates/trace/out/trace".to_string()),
     }
 }
 
@@ -36,7 +36,7 @@ impl Archive {
             Ok(status) if status.success() => {}
             _ => return Err("tools/proved trace failed: there is no proved program".to_string()),
         }
-        Ok(Archive { runner: runner()?, trace: root.join("target/bin/trace") })
+        Ok(Archive { runner: runner()?, trace: root.join("crates/trace/out/trace") })
     }
 }
 

@@ -1,5 +1,5 @@
-//! Compares the archive `libboard.a` and the program `target/bin/trace` with the reference on random
-//! cases, and fails on the first difference, or where too little was met.
+//! Compares the archive `libboard.a` and the program `crates/trace/out/trace` with the reference on
+//! random cases, and fails on the first difference, or where too little was met.
 //!
 //! `TANNOPLEX_SEED` sets the seed, which is else taken from the clock and always printed.
 

@@ -1,5 +1,4 @@
 -- `put_hex` meets its contract: the lowest digit is written first, so what is left of the digits is what is left of the number. Assumes nothing.
-use Prim.Native.Nat.{◌-◌}
 use mathlib.Core.Path.{◌≡◌}
 use Prim.Native.Nat.{◌≤◌}
 use lib.ListN.{length}

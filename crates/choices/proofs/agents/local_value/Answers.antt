@@ -7,7 +7,7 @@ pub returns-then-r-eq0 : goal.returns-then-r-eq0
 returns-then-r-eq0 c s m hx hy = after_set _ _ _ s m hx hy c.if-r-eq0.true
 
 pub returns-then-r-eq1 : goal.returns-then-r-eq1
-returns-then-r-eq1 c s m hx hy = after_add _ _ _ s m hx hy c.if-r-eq1.true _ c.wrapping_add_u32.ensures
+returns-then-r-eq1 c s m hx hy = after_add _ _ _ s m hx hy c.if-r-eq1.true _ c.wrapping_add_u32.ensures.value
 
 pub returns-then-r-eq2 : goal.returns-then-r-eq2
 returns-then-r-eq2 c s m hx hy = after_sub _ _ _ s m hx hy c.if-r-eq2.true _ (search rules)

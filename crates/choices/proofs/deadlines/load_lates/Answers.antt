@@ -1,4 +1,4 @@
-use Rattle.std.proofs.Common.{◌≡◌, ℕ, ◌-◌, length, get_or, replicate, refl, ap, ◌∙◌, append-nil, zero-le, arith}
+use Rattle.std.proofs.Common.{◌≡◌, ℕ, length, get_or, replicate, refl, ap, ◌∙◌, append-nil, zero-le, arith}
 use Rattle.choices.specs.State.{pos}
 use Rattle.choices.specs.Registers.{listed}
 use Rattle.choices.specs.Lates.{late_at}
@@ -11,7 +11,7 @@ unfolding listed
 loop-a-init c = (zero-le, refl)
 
 pub late_at-requires : goal.late_at-requires
-late_at-requires c =    let s = short c.args.table.now c.requires.2 c.loop-a.a (omega arith) in
+late_at-requires c = let s = short c.args.table.now c.requires.2 c.loop-a.a (omega arith) in
     omega arith
 
 pub loop-a-preserved : goal.loop-a-preserved

@@ -1,10 +1,11 @@
-use Rattle.std.proofs.Common.{◌≡◌, ◌+◌, ◌-◌, sym, refl, ap, ◌∙◌, ⊎_elim, add-one, arith, rules}
+use Rattle.std.proofs.Common.{◌≡◌, ◌+◌, sym, refl, ap, ◌∙◌, add-one, arith, rules}
 use Rattle.choices.proofs.Looking.{none_taken, better_early, one_better, one_left}
 use Rattle.tables.specs.Layout.{agents}
 use Rattle.tables.specs.declared.Row.{Row}
 use Rattle.choices.specs.State.{pool}
 use Rattle.choices.specs.Messages.{look_rows, look_agents, best}
 use Rattle.choices.proofs.messages.find_best.Goals as goal
+use Rattle.choices.proofs.messages.find_best.Goals.{then-is_better, else-is_better}
 
 pub agents-init : goal.agents-init
 unfolding look_agents
@@ -22,9 +23,8 @@ overflow_add-least_of_next c =
     let b = c.agents.b in
     let l = c.loop-i in
     let h = better_early g.table.now (pool g.state.now) g.r b l.i _ (sym c.if-is_better.true ∙ c.is_better.ensures) in
-    let w = c.well-formed.1.1.0 in
     let e = ap (λ (x : Row). x.late) c.row_at-sender.ensures in
-    omega (arith, h, w.1.1.1.1.1.0)
+    omega (arith, h)
 
 pub loop-i-preserved : goal.loop-i-preserved
 loop-i-preserved c =
@@ -35,12 +35,12 @@ loop-i-preserved c =
     let j = c.if-is_better in (
       omega arith,
       omega arith,
-      ⊎_elim
-          (λ u. one_better g.table.now (pool g.state.now) g.r o.b o.m l.i l.m l.least-of-next l.least l.invariant.2 j.m j.least-of-next j.least
-          (u.3 ∙ u.1.ensures) (u.4 ∙ ap (λ (x : Row). x.late + 1) u.2.ensures) (u.5 ∙ ap (λ (x : Row). x.late) u.2.ensures) (sym u.0.taken ∙ q))
-          (λ u. one_left g.table.now (pool g.state.now) g.r o.b o.m l.i l.m l.least-of-next l.least l.invariant.2 j.m j.least-of-next j.least
-          u.1 u.2 u.3 (sym u.0.left ∙ q))
-          j.branch,
+      elim j.branch [
+        | then-is_better u ↦ one_better g.table.now (pool g.state.now) g.r o.b o.m l.i l.m l.least_of_next l.least l.invariant.2 j.m j.least_of_next j.least
+            (u.m-is ∙ u.message_at-m.ensures) (u.least_of_next-is ∙ ap (λ (x : Row). x.late + 1) u.row_at-sender.ensures) (u.least-is ∙ ap (λ (x : Row). x.late) u.row_at-sender.ensures) (sym u.if-is_better.true ∙ q)
+        | else-is_better u ↦ one_left g.table.now (pool g.state.now) g.r o.b o.m l.i l.m l.least_of_next l.least l.invariant.2 j.m j.least_of_next j.least
+            u.m-is u.least_of_next-is u.least-is (sym u.if-is_better.false ∙ q)
+      ],
     )
 
 pub agents-preserved : goal.agents-preserved

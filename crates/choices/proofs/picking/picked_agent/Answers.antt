@@ -1,6 +1,7 @@
-use Rattle.std.proofs.Common.{◌≡◌, ℕ, ◌-◌, refl, subst, ⊎_elim, arith}
+use Rattle.std.proofs.Common.{◌≡◌, ℕ, refl, subst, arith}
 use Rattle.choices.proofs.Pick.{FirstLeast, least_none, least_new, least_kept, all_have_ended, one_picked}
 use Rattle.choices.proofs.picking.picked_agent.Goals as goal
+use Rattle.choices.proofs.picking.picked_agent.Goals.{then-late-least, else-late-least}
 
 pub loop-b-init : goal.loop-b-init
 loop-b-init c = (least_none _, omega arith)
@@ -8,10 +9,10 @@ loop-b-init c = (least_none _, omega arith)
 pub loop-b-preserved : goal.loop-b-preserved
 loop-b-preserved c =
     let l = c.loop-b in (
-      ⊎_elim
-          (λ w. least_new _ l.b l.a l.least l.invariant.0 _ _ _ refl w.0.taken w.1 w.2)
-          (λ w. least_kept _ l.b l.a l.least l.invariant.0 _ _ _ refl w.0.left w.1 w.2)
-          c.if-late-least.branch,
+      elim c.if-late-least.branch [
+        | then-late-least w ↦ least_new _ l.b l.a l.least l.invariant.0 _ _ _ refl w.if-late-least.true w.a-is w.least-is
+        | else-late-least w ↦ least_kept _ l.b l.a l.least l.invariant.0 _ _ _ refl w.if-late-least.false w.a-is w.least-is
+      ],
       omega arith,
     )
 

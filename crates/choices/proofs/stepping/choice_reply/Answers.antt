@@ -9,10 +9,10 @@ pub returns-then-agent_count-a : goal.returns-then-agent_count-a
 returns-then-agent_count-a c = sym (reply_10 _ _ _ _ (omega arith))
 
 pub position-p-requires : goal.position-p-requires
-position-p-requires c =    let n = few c.args.table.now c.requires.2 in omega arith
+position-p-requires c = let n = few c.args.table.now c.requires.2 in omega arith
 
 pub row_count-requires : goal.row_count-requires
-row_count-requires c =    let n = few c.args.table.now c.requires.2 in omega arith
+row_count-requires c = let n = few c.args.table.now c.requires.2 in omega arith
 
 pub returns-then-row_count-p : goal.returns-then-row_count-p
 returns-then-row_count-p c = sym (reply_11 _ _ _ _ (omega arith) (omega arith))
@@ -21,7 +21,7 @@ pub returns-then-t-clock : goal.returns-then-t-clock
 returns-then-t-clock c = sym (reply_12 _ _ _ _ (omega arith) (omega arith) (omega arith))
 
 pub row_at-r-requires : goal.row_at-r-requires
-row_at-r-requires c =    let low = rw c.agent_count.ensures at c.if-agent_count-a.false in
+row_at-r-requires c = let low = rw c.agent_count.ensures at c.if-agent_count-a.false in
     let n = few c.args.table.now c.requires.2 in
     let r = few_rows c.args.table.now c.requires.2 c.args.a low in
     omega arith
@@ -32,13 +32,13 @@ returns-then-t-r c =
     sym (reply_13 _ _ _ _ (omega arith) (omega arith) (omega arith) (rw (c.row_at-r.ensures, p) at c.if-t-r.true))
 
 pub returns-then-deadline-t : goal.returns-then-deadline-t
-returns-then-deadline-t c =    let p = c.position-p.ensures in
+returns-then-deadline-t c = let p = c.position-p.ensures in
     sym (reply_15 _ _ _ _ (rw c.agent_count.ensures at c.if-agent_count-a.false) (rw (c.row_count.ensures, p) at c.if-row_count-p.false)
     (rw c.clock.ensures at c.if-t-clock.false) (rw (c.row_at-r.ensures, p) at c.if-t-r.false)
     (c.requires.3 ∙ lt-leb _ _ c.if-deadline-t.true))
 
 pub returns : goal.returns
-returns c =    let p = c.position-p.ensures in
+returns c = let p = c.position-p.ensures in
     sym (reply_0 _ _ _ _ (rw c.agent_count.ensures at c.if-agent_count-a.false) (rw (c.row_count.ensures, p) at c.if-row_count-p.false)
     (rw c.clock.ensures at c.if-t-clock.false) (rw (c.row_at-r.ensures, p) at c.if-t-r.false)
     (c.requires.3 ∙ le-leb _ _ c.if-deadline-t.false))

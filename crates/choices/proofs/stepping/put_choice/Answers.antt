@@ -18,4 +18,4 @@ bounds-state-value_place c = simp length-set (omega arith)
 
 pub returns : goal.returns
 unfolding with_sent
-returns c =    rw (c.value_place.ensures, c.mark_place.ensures, c.pos_place.ensures, eq-eqb _ _ c.if-r-ne32.false)
+returns c = rw (c.value_place.ensures, c.mark_place.ensures, c.pos_place.ensures, eq-eqb _ _ c.if-r-ne32.false)

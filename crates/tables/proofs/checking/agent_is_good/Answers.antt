@@ -18,14 +18,14 @@ returns-then-c c =
 
 pub returns-then-not-rows_are_good : goal.returns-then-not-rows_are_good
 unfolding good_agent
-returns-then-not-rows_are_good c =    rw (← c.row_count-c.ensures)
+returns-then-not-rows_are_good c = rw (← c.row_count-c.ensures)
     (every_go _ _ _ (le-leb _ _ c.if-c-lt1.false)
     (every_go _ _ _ (le-leb _ _ c.if-c.false)
     (every_stop _ _ (refused _ _ c.rows_are_good.ensures c.if-not-rows_are_good.true))))
 
 pub returns : goal.returns
 unfolding good_agent
-returns c =    rw (← c.row_count-c.ensures, ← c.row_place-2.ensures, ← c.row_place.ensures)
+returns c = rw (← c.row_count-c.ensures, ← c.row_place-2.ensures, ← c.row_place.ensures)
     (every_go _ _ _ (le-leb _ _ c.if-c-lt1.false)
     (every_go _ _ _ (le-leb _ _ c.if-c.false)
     (every_go _ _ _ (granted _ _ c.rows_are_good.ensures c.if-not-rows_are_good.false)

@@ -1,8 +1,6 @@
 use borrow.Author.Rules.{rules}
 use mathlib.Core.Path.{sym, ◌∙◌}
-use mathlib.Core.Bool.{true}
 use native.Mathlib.Omega.{arith}
-use Prim.Native.Nat.{◌-◌}
 use Rattle.tables.proofs.Tests.{refused, granted}
 use Rattle.tables.proofs.Loops.{row_good, row_stops, window_stops, rows_end, below_none, below_next}
 use Rattle.tables.proofs.checking.rows_are_good.Goals as goal
@@ -11,19 +9,19 @@ pub loop-i-init : goal.loop-i-init
 loop-i-init c = (below_none _, search rules)
 
 pub loop-i-preserved : goal.loop-i-preserved
-loop-i-preserved c =    (
-      below_next _ _ c.loop-i.invariant.0
-          (row_good _ _ _ (sym c.row_reply_at.ensures ∙ c.if-row_reply_at-ne-ACCEPTED.false) (granted _ _ c.row_climbs.ensures c.if-not-row_climbs.false)),
-      search rules,
-    )
+loop-i-preserved c = (
+  below_next _ _ c.loop-i.invariant.0
+      (row_good _ _ _ (sym c.row_reply_at.ensures ∙ c.if-row_reply_at-ne-ACCEPTED.false) (granted _ _ c.row_climbs.ensures c.if-not-row_climbs.false)),
+  search rules,
+)
 
 pub returns-then-row_reply_at-ne-ACCEPTED : goal.returns-then-row_reply_at-ne-ACCEPTED
-returns-then-row_reply_at-ne-ACCEPTED c =    let count = c.requires.2 in
+returns-then-row_reply_at-ne-ACCEPTED c = let count = c.requires.2 in
     let taken = c.loop-i-test.true in
     row_stops _ _ _ (omega arith) (λ e. c.if-row_reply_at-ne-ACCEPTED.true (c.row_reply_at.ensures ∙ e))
 
 pub returns-then-not-row_climbs : goal.returns-then-not-row_climbs
-returns-then-not-row_climbs c =    let count = c.requires.2 in
+returns-then-not-row_climbs c = let count = c.requires.2 in
     let taken = c.loop-i-test.true in
     window_stops _ _ _ (omega arith) (refused _ _ c.row_climbs.ensures c.if-not-row_climbs.true)
 

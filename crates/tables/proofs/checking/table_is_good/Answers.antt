@@ -20,14 +20,14 @@ returns-then-n-gt-MOST_AGENTS c =
 
 pub returns-then-not-agents_are_good : goal.returns-then-not-agents_are_good
 unfolding good_table
-returns-then-not-agents_are_good c =    rw (← c.agent_count-n.ensures)
+returns-then-not-agents_are_good c = rw (← c.agent_count-n.ensures)
     (every_go _ _ _ (le-leb _ _ c.if-n-lt1.false)
     (every_go _ _ _ (le-leb _ _ c.if-n-gt-MOST_AGENTS.false)
     (every_stop _ _ (refused _ _ c.agents_are_good.ensures c.if-not-agents_are_good.true))))
 
 pub returns-then-not-all_zero : goal.returns-then-not-all_zero
 unfolding good_table
-returns-then-not-all_zero c =    rw (← c.agent_count-n.ensures, ← c.count_place.ensures)
+returns-then-not-all_zero c = rw (← c.agent_count-n.ensures, ← c.count_place.ensures)
     (every_go _ _ _ (le-leb _ _ c.if-n-lt1.false)
     (every_go _ _ _ (le-leb _ _ c.if-n-gt-MOST_AGENTS.false)
     (every_go _ _ _ (granted _ _ c.agents_are_good.ensures c.if-not-agents_are_good.false)
@@ -35,7 +35,7 @@ returns-then-not-all_zero c =    rw (← c.agent_count-n.ensures, ← c.count_pl
 
 pub returns-then-not-all_zero-2 : goal.returns-then-not-all_zero-2
 unfolding good_table
-returns-then-not-all_zero-2 c =    rw (← c.agent_count-n.ensures, ← c.count_place.ensures, ← c.start_place.ensures)
+returns-then-not-all_zero-2 c = rw (← c.agent_count-n.ensures, ← c.count_place.ensures, ← c.start_place.ensures)
     (every_go _ _ _ (le-leb _ _ c.if-n-lt1.false)
     (every_go _ _ _ (le-leb _ _ c.if-n-gt-MOST_AGENTS.false)
     (every_go _ _ _ (granted _ _ c.agents_are_good.ensures c.if-not-agents_are_good.false)
@@ -44,7 +44,7 @@ returns-then-not-all_zero-2 c =    rw (← c.agent_count-n.ensures, ← c.count_
 
 pub returns : goal.returns
 unfolding good_table
-returns c =    rw (← c.agent_count-n.ensures, ← c.count_place.ensures, ← c.start_place.ensures, ← c.row_place.ensures)
+returns c = rw (← c.agent_count-n.ensures, ← c.count_place.ensures, ← c.start_place.ensures, ← c.row_place.ensures)
     (every_go _ _ _ (le-leb _ _ c.if-n-lt1.false)
     (every_go _ _ _ (le-leb _ _ c.if-n-gt-MOST_AGENTS.false)
     (every_go _ _ _ (granted _ _ c.agents_are_good.ensures c.if-not-agents_are_good.false)

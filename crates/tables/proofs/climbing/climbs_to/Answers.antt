@@ -7,12 +7,12 @@ pub returns-then-c-j : goal.returns-then-c-j
 returns-then-c-j c = let e = c.requires.2 in to_end _ _ _ _ (omega arith)
 
 pub returns-then-next-r : goal.returns-then-next-r
-returns-then-next-r c =    let e = c.requires.2 in
+returns-then-next-r c = let e = c.requires.2 in
     early_back _ _ _ _ (let l = c.if-c-j.false in omega arith)
     (rw (← c.row_at-next.ensures, ← c.row_at-r.ensures) c.if-next-r.true)
 
 pub returns : goal.returns
-returns c =    let e = c.requires.2 in
+returns c = let e = c.requires.2 in
     rw (c.row_at-next.ensures, c.row_at-r.ensures)
     (by_late _ _ _ _ (let l = c.if-c-j.false in omega arith)
     (rw (← c.row_at-next.ensures, ← c.row_at-r.ensures) c.if-next-r.false))

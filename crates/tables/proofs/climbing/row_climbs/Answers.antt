@@ -8,14 +8,14 @@ pub returns-then-n-eq0 : goal.returns-then-n-eq0
 returns-then-n-eq0 c = c.climbs_to.ensures ∙ one_way _ _ _ _ c.row_at-r.ensures c.if-n-eq0.true
 
 pub returns-then-not-climbs_to : goal.returns-then-not-climbs_to
-returns-then-not-climbs_to c =    far_back _ _ _ _ c.row_at-r.ensures c.requires.5 c.if-n-eq0.false
+returns-then-not-climbs_to c = far_back _ _ _ _ c.row_at-r.ensures c.requires.5 c.if-n-eq0.false
     (refused _ _ c.climbs_to-2.ensures c.if-not-climbs_to.true)
 
 pub returns : goal.returns
-returns c =    c.climbs_to-3.ensures
+returns c = c.climbs_to-3.ensures
     ∙ both_on _ _ _ _ c.row_at-r.ensures c.requires.5 c.if-n-eq0.false
     (granted _ _ c.climbs_to-2.ensures c.if-not-climbs_to.false) c.if-r-eq-JUMP.false
 
 pub returns-then-r-eq-JUMP : goal.returns-then-r-eq-JUMP
-returns-then-r-eq-JUMP c =    jump_on _ _ _ _ c.row_at-r.ensures c.requires.5 c.if-n-eq0.false
+returns-then-r-eq-JUMP c = jump_on _ _ _ _ c.row_at-r.ensures c.requires.5 c.if-n-eq0.false
     (granted _ _ c.climbs_to-2.ensures c.if-not-climbs_to.false) c.if-r-eq-JUMP.true

@@ -1,6 +1,4 @@
 use mathlib.Core.Path.{sym, ◌∙◌}
-use mathlib.Core.Bool.{true}
-use Prim.Native.Nat.{◌-◌}
 use native.Mathlib.Omega.{arith}
 use Rattle.tables.proofs.Judging.{no_digits_yet, one_digit_more, judged_kind, judged_character}
 use Rattle.tables.proofs.faults.judge_line.Goals as goal

@@ -7,13 +7,13 @@ use Rattle.tables.proofs.Sound.{begins_end, begins_digits, begins_opens, begins_
 use Rattle.tables.proofs.frames.sound_line.Goals as goal
 
 pub returns-then-text-at-eq70 : goal.returns-then-text-at-eq70
-returns-then-text-at-eq70 c =    sym (begins_end c.args.text.now c.args.at c.requires.0 c.requires.1 c.if-text-at-eq70.true)
+returns-then-text-at-eq70 c = sym (begins_end c.args.text.now c.args.at c.requires.0 c.requires.1 c.if-text-at-eq70.true)
 
 pub bounds-text-at-2 : goal.bounds-text-at-2
-bounds-text-at-2 c =    omega (arith, digits_room 36 _ _ (begins_digits c.args.text.now c.args.at c.requires.0 c.requires.1 c.if-text-at-eq70.false) (omega arith))
+bounds-text-at-2 c = omega (arith, digits_room 36 _ _ (begins_digits c.args.text.now c.args.at c.requires.0 c.requires.1 c.if-text-at-eq70.false) (omega arith))
 
 pub field-requires : goal.field-requires
-field-requires c =    field_asks
+field-requires c = field_asks
     36
     c.args.text.now
     c.args.at
@@ -27,11 +27,11 @@ field-requires c =    field_asks
     (omega arith)
 
 pub returns-then-text-at-eq48 : goal.returns-then-text-at-eq48
-returns-then-text-at-eq48 c =    ap Opens c.field.ensures
+returns-then-text-at-eq48 c = ap Opens c.field.ensures
     ∙ sym (begins_opens c.args.text.now c.args.at c.requires.0 c.requires.1 c.if-text-at-eq70.false c.if-text-at-eq48.true)
 
 pub field-requires-2 : goal.field-requires-2
-field-requires-2 c =    field_asks
+field-requires-2 c = field_asks
     36
     c.args.text.now
     c.args.at
@@ -45,5 +45,5 @@ field-requires-2 c =    field_asks
     (omega arith)
 
 pub returns : goal.returns
-returns c =    ap Gives c.field-2.ensures
+returns c = ap Gives c.field-2.ensures
     ∙ sym (begins_gives c.args.text.now c.args.at c.requires.0 c.requires.1 c.if-text-at-eq70.false c.if-text-at-eq48.false)

@@ -10,20 +10,20 @@ returns-then-not-is_well_formed c =
 
 pub returns-then-late-early : goal.returns-then-late-early
 unfolding row_of
-returns-then-late-early c =    no_window (row_of _ _ _ _) _ _
+returns-then-late-early c = no_window (row_of _ _ _ _) _ _
     (granted _ _ (c.is_well_formed.ensures _ _) c.if-not-is_well_formed.false)
     (within_rows _ _ _ c.requires c.if-c-i.false)
     c.if-late-early.true
 
 pub returns-then-c-i : goal.returns-then-c-i
 unfolding row_of
-returns-then-c-i c =    bad_target (row_of _ _ _ _) _ _
+returns-then-c-i c = bad_target (row_of _ _ _ _) _ _
     (granted _ _ (c.is_well_formed.ensures _ _) c.if-not-is_well_formed.false)
     (past_rows _ _ _ c.requires c.if-c-i.true)
 
 pub returns-then-late-gt-LAST_TIME : goal.returns-then-late-gt-LAST_TIME
 unfolding row_of
-returns-then-late-gt-LAST_TIME c =    too_late (row_of _ _ _ _) _ _
+returns-then-late-gt-LAST_TIME c = too_late (row_of _ _ _ _) _ _
     (granted _ _ (c.is_well_formed.ensures _ _) c.if-not-is_well_formed.false)
     (within_rows _ _ _ c.requires c.if-c-i.false)
     c.if-late-early.false
@@ -31,7 +31,7 @@ returns-then-late-gt-LAST_TIME c =    too_late (row_of _ _ _ _) _ _
 
 pub returns : goal.returns
 unfolding row_of
-returns c =    accepted (row_of _ _ _ _) _ _
+returns c = accepted (row_of _ _ _ _) _ _
     (granted _ _ (c.is_well_formed.ensures _ _) c.if-not-is_well_formed.false)
     (within_rows _ _ _ c.requires c.if-c-i.false)
     c.if-late-early.false

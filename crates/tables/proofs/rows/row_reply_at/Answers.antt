@@ -5,4 +5,4 @@ use Rattle.tables.proofs.rows.row_reply_at.Goals as goal
 
 pub returns : goal.returns
 unfolding row_reply_at
-returns c =    c.row_reply.ensures ∙ rw (c.row_place-p.ensures, c.requires.2)
+returns c = c.row_reply.ensures ∙ rw (c.row_place-p.ensures, c.requires.2)

@@ -1,7 +1,6 @@
 use borrow.Author.Rules.{rules}
 use native.Mathlib.Omega.{arith}
 use mathlib.Core.Path.{◌≡◌, sym, ap, ◌∙◌}
-use Prim.Native.Nat.{◌-◌}
 use Rattle.tables.specs.Basics.{zero_from}
 use Rattle.tables.proofs.Zeros.{zero_none, zero_stop, zero_go}
 use Rattle.tables.proofs.words.all_zero.Goals as goal

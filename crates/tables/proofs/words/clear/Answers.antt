@@ -1,6 +1,6 @@
 use mathlib.Core.Path.{◌≡◌, refl, ap, ◌∙◌}
 use mathlib.Core.List.{List, ◌++◌, append-nil}
-use Prim.Native.Nat.{ℕ, ◌-◌, zero-le}
+use Prim.Native.Nat.{ℕ, zero-le}
 use native.Mathlib.Omega.{arith}
 use lib.ListN.{length, set, replicate, length-set, drop_of_length-le}
 use borrow.Author.Fill.{fill_more}

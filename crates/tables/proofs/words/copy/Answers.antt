@@ -1,6 +1,6 @@
 use mathlib.Core.Path.{◌≡◌, sym, ap, ◌∙◌}
 use mathlib.Core.List.{List, ◌++◌, append-nil}
-use Prim.Native.Nat.{ℕ, ◌+◌, ◌-◌, zero-le}
+use Prim.Native.Nat.{ℕ, ◌+◌, zero-le}
 use native.Mathlib.Omega.{arith}
 use lib.ListN.{set, take, get_or, length-set, drop_of_length-le}
 use lib.Seq.{take_all, paste, paste-zero, paste-suc}
