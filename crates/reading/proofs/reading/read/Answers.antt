@@ -50,8 +50,9 @@ told_is c p z =
 pub returns : goal.returns
 returns c =
     let g = c.args in
+    let z : c.table_climbs-climbing.result.reply ≡ 0 = omega arith in
     ap (read_outcome c.table_climbs-climbing.result) c.put_table.ensures
-    ∙ read_accepted g.text.now g.table.now c.if-table-lt-TABLE_WORDS.false _ (told_is (goal.at.returns c).After-table_climbs-climbing (placed (goal.at.returns c).Else-placed-ne-ACCEPTED) (passed (goal.at.returns c).Else-good-ne-ACCEPTED)) c.if-climbing-ne-ACCEPTED.false _
+    ∙ read_accepted g.text.now g.table.now c.if-table-lt-TABLE_WORDS.false _ (told_is (goal.at.returns c).After-table_climbs-climbing (placed (goal.at.returns c).Else-placed-ne-ACCEPTED) (passed (goal.at.returns c).Else-good-ne-ACCEPTED)) z _
     (c.take_rows-good.ensures.1 c.if-good-ne-ACCEPTED.false)
 
 pub returns-then-climbing-ne-ACCEPTED : goal.returns-then-climbing-ne-ACCEPTED
