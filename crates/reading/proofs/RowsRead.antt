@@ -48,6 +48,9 @@ unfolding rows_good
 good_end n c i fs = refl
 
 module _ {text : List ℕ} {p n c i : ℕ} (t : Turn text p n c i) where
+  pub few_lines : n ≤ 561
+  few_lines = let q = t.placed.line in let a = t.placed.agents in let r = t.placed.rows in omega arith
+
   module _ {b : ℕ} (o : line_at text p ≡ Opens b) where
     pub opens_line : Framed text p (opens b (words_at text p))
     opens_line = framed text p t.within (Opens b) o refl
