@@ -1,6 +1,7 @@
 // The exported functions, for the switch's C code: each is one line over a proved call, with that call's statement.
 // A slice passes as pointer and length.
 #![tactic(auto)]
+
 ghost use Rattle.tables.specs.Calls as Tables;
 ghost use Rattle.reading.specs.Calls as Reading;
 ghost use Rattle.writing.specs.Calls as Writing;
