@@ -18,7 +18,7 @@ use Rattle.demands.specs.Demand2.{Table, Fitting}
 use Rattle.demands.specs.Steps.{Step, steps_from, comes_to, last_of}
 use Rattle.pharos.specs.Prefix.{OneBegins}
 use Rattle.demands.specs.Demand3.{AllAtTheirEnd}
-use Rattle.demands.specs.Traces.{trace_steps, choices_of_input, shows, last_position, AcceptedText, TracesAgree, TracesEndAlike}
+use Rattle.demands.specs.Traces.{trace_steps, choices_of_input, last_position, AcceptedText, TracesAgree, TracesEndAlike}
 use Rattle.demands.proofs.Demand2.{start_is_models}
 use Rattle.demands.proofs.Demand3.{deterministic_from, same_courses_from}
 use Rattle.demands.proofs.Made.{steps_last, comes_nowhere}

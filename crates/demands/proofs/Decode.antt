@@ -14,7 +14,7 @@ use borrow.Author.Tests.{lt-ltb, le-ltb, ltb-true, ne_eqb}
 use Rattle.tables.specs.Layout.{agents}
 use Rattle.tables.proofs.Passed.{and_1, and_2}
 use Rattle.choices.specs.declared.Agent.{Agent}
-use Rattle.choices.specs.State.{pos, mark, value, agent_at, pos_place, reg_place, mark_place, value_place}
+use Rattle.choices.specs.State.{mark, value, agent_at, pos_place, reg_place, mark_place, value_place}
 use Rattle.choices.proofs.Lists.{get_d_part}
 use Rattle.executive.proofs.Fitting.{Fits, Unsent, Sent, any_message}
 use Rattle.demands.specs.Instance.{start_of, agent_held, row_held, state_of, sent_of}

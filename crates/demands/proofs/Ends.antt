@@ -2,12 +2,12 @@
 use mathlib.Core.Path.{◌≡◌, refl, sym, ap, ap₂, subst, ◌∙◌}
 use mathlib.Core.Bool.{Bool, true, false, not, cond, true≢false}
 use mathlib.Core.List.{List, [], ◌∷◌}
-use mathlib.Core.Logic.{◌≢◌, ⊎_elim}
+use mathlib.Core.Logic.{⊎_elim}
 use Prim.Native.Nat.{ℕ, zero, suc, zero-le, max, ◌-◌, ◌≤◌, ◌<◌}
 use native.Mathlib.Omega.{arith}
 use lib.Dec.{leb}
 use borrow.Author.Tests.{leb-true, leb-false, lt-leb, not-false}
-use Rattle.pharos.specs.Model.{Model, System, Good, step, start, ◌▸◌}
+use Rattle.pharos.specs.Model.{Model, System, Good, start, ◌▸◌}
 use Rattle.pharos.specs.Runs.{total, Ready, work, Windows, Nearer}
 use Rattle.pharos.proofs.Instance.{model, system, picked, executes_is_step}
 use Rattle.pharos.proofs.Progress.{least, least_may, progress}

@@ -16,7 +16,7 @@ use Rattle.tables.specs.Table.{good_table}
 use Rattle.choices.specs.declared.Agent.{Agent}
 use Rattle.choices.specs.declared.Best.{Best}
 use Rattle.choices.specs.declared.Best.TheVariants.{Nothing}
-use Rattle.choices.specs.State.{clock, pos, pool, agent_at}
+use Rattle.choices.specs.State.{pos, pool, agent_at}
 use Rattle.choices.specs.Messages.{best}
 use Rattle.choices.specs.Effect.{after}
 use Rattle.choices.specs.Fit.{current}

@@ -1,5 +1,6 @@
 // The trace program's work: from input bytes to output bytes, on slices.
 #![tactic(auto)]
+
 ghost use Rattle.std.specs.Prelude.{◌≡◌, length};
 ghost use Rattle.tables.specs.Layout.{table_words};
 ghost use Rattle.traces.specs.Calls.{WroteTrace};

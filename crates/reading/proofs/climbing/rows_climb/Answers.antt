@@ -1,10 +1,7 @@
 use borrow.Author.Rules.{rules}
 use Rattle.tables.proofs.Tests.{refused, granted}
-use Rattle.reading.proofs.Climbs.{first_row, next_row, goes_back, no_row}
+use Rattle.reading.proofs.Climbs.{next_row, goes_back, no_row}
 use Rattle.reading.proofs.climbing.rows_climb.Goals as goal
-
-pub loop-i-init : goal.loop-i-init
-loop-i-init c = (first_row _ _ _ _, search rules)
 
 pub loop-i-preserved : goal.loop-i-preserved
 loop-i-preserved c = (
@@ -18,8 +15,3 @@ returns-then-not-row_climbs c =
 
 pub returns : goal.returns
 returns c = no_row _ _ _ _ _ c.loop-i.invariant.0 c.loop-i-test.false
-
-pub row_climbs-requires : goal.row_climbs-requires
-row_climbs-requires c =
-    let p = c.requires in
-    (p.0, p.2, p.3, p.4, c.loop-i-test.true, p.5 _ c.loop-i-test.true)

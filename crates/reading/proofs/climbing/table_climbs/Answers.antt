@@ -26,7 +26,8 @@ pub returns-then-told-ne-ACCEPTED : goal.returns-then-told-ne-ACCEPTED
 returns-then-told-ne-ACCEPTED c = agent_back _ _ _ _ _ c.loop-a.invariant.0 (real (goal.at.returns-then-told-ne-ACCEPTED c).In-loop-a) c.row_count-c.ensures _ c.rows_climb-told.ensures c.if-told-ne-ACCEPTED.true
 
 pub loop-a-preserved : goal.loop-a-preserved
-loop-a-preserved c = let i = c.loop-a.invariant in
+loop-a-preserved c =
+    let i = c.loop-a.invariant in
     let r = few (goal.at.loop-a-preserved c).After-row_count-c in (
       next_agent _ _ _ _ _ i.0 (real (goal.at.loop-a-preserved c).In-loop-a) c.row_count-c.ensures _ c.rows_climb-told.ensures c.if-told-ne-ACCEPTED.false,
       search rules,
@@ -38,29 +39,3 @@ returns c =
     let e = c.agent_count-m.ensures in
     let l = c.loop-a-test.false in
     no_agent_lem _ _ _ _ c.loop-a.invariant.0 (omega arith)
-
-pub row_count-c-requires : goal.row_count-c-requires
-row_count-c-requires c =
-    let p = c.requires in
-    let r = real (goal.at.row_count-c-requires c).In-loop-a in
-    (omega (arith, p.0), omega (arith, p.2))
-
-pub overflow_add-line : goal.overflow_add-line
-overflow_add-line c = let i = c.loop-a.invariant in let r = real (goal.at.overflow_add-line c).In-loop-a in omega (arith, c.requires.1, c.requires.2)
-
-pub rows_climb-told-requires : goal.rows_climb-told-requires
-rows_climb-told-requires c =
-    let p = c.requires in
-    let i = c.loop-a.invariant in
-    let r = real (goal.at.rows_climb-told-requires c).In-loop-a in
-    let e = c.row_count-c.ensures in
-    (omega (arith, p.0), omega (arith, p.1, p.2), omega (arith, p.2), e, few (goal.at.rows_climb-told-requires c).After-row_count-c, λ j h. p.4 _ j r (omega arith))
-
-pub overflow_add-line-in-loop-a : goal.overflow_add-line-in-loop-a
-overflow_add-line-in-loop-a c = omega (arith, few (goal.at.overflow_add-line-in-loop-a c).After-row_count-c)
-
-pub overflow_add-line-in-loop-a-2 : goal.overflow_add-line-in-loop-a-2
-overflow_add-line-in-loop-a-2 c = let i = c.loop-a.invariant in
-    let r = real (goal.at.overflow_add-line-in-loop-a-2 c).In-loop-a in
-    let p = c.requires in
-    omega (arith, few (goal.at.overflow_add-line-in-loop-a-2 c).After-row_count-c, p.1, p.2)

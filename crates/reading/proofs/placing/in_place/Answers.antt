@@ -32,9 +32,6 @@ gives_room c =
     let l = c.loop-p in
     (framed c.args.text.now l.p l.invariant.0 (Gives _) (sym c.line_at-line.ensures ∙ c.in-Gives.is) refl).room
 
-pub loop-p-init : goal.loop-p-init
-loop-p-init c = (omega arith, omega arith, omega arith, omega arith, omega arith, refl)
-
 pub returns-then-not-may_open : goal.returns-then-not-may_open
 returns-then-not-may_open c =
     let l = c.loop-p in
@@ -43,12 +40,6 @@ returns-then-not-may_open c =
     sym
     (l.invariant.5
     ∙ opened_not g.text.now l.p l.invariant.0 l.n l.a l.i _ (opens_here (goal.at.returns-then-not-may_open c).After-may_open) (sym q ∙ c.if-not-may_open.true))
-
-pub overflow_add-p : goal.overflow_add-p
-overflow_add-p c = omega (arith, opens_room (goal.at.overflow_add-p c).Else-not-may_open)
-
-pub loop-p-smaller-in-Opens : goal.loop-p-smaller-in-Opens
-loop-p-smaller-in-Opens c = omega (arith, opens_room (goal.at.loop-p-smaller-in-Opens c).Else-not-may_open)
 
 pub loop-p-preserved-in-Opens : goal.loop-p-preserved-in-Opens
 loop-p-preserved-in-Opens c =
@@ -67,12 +58,6 @@ returns-then-not-may_give c =
     sym
     (l.invariant.5
     ∙ given_not g.text.now l.p l.invariant.0 l.n l.a l.i _ (gives_here (goal.at.returns-then-not-may_give c).After-may_give) (sym q ∙ c.if-not-may_give.true))
-
-pub overflow_add-p-in-Gives : goal.overflow_add-p-in-Gives
-overflow_add-p-in-Gives c = omega (arith, gives_room (goal.at.overflow_add-p-in-Gives c).Else-not-may_give)
-
-pub loop-p-smaller : goal.loop-p-smaller
-loop-p-smaller c = omega (arith, gives_room (goal.at.loop-p-smaller c).Else-not-may_give)
 
 pub loop-p-preserved : goal.loop-p-preserved
 loop-p-preserved c =

@@ -25,11 +25,9 @@ returns-then-placed-ne-ACCEPTED c =
 placed : (c : Else-placed-ne-ACCEPTED) → (in_place 1 0 0 (frames_of c.args.text.now)).reply ≡ 0
 placed c = ap (λ (t : Told). t.reply) (sym c.in_place-placed.ensures) ∙ c.if-placed-ne-ACCEPTED.false
 
-pub take_rows-good-requires : goal.take_rows-good-requires
-take_rows-good-requires c = (placed (goal.at.take_rows-good-requires c).Else-placed-ne-ACCEPTED, c.blank_table-words.ensures)
-
 pub returns-then-good-ne-ACCEPTED : goal.returns-then-good-ne-ACCEPTED
-returns-then-good-ne-ACCEPTED c = let g = c.args in
+returns-then-good-ne-ACCEPTED c =
+    let g = c.args in
     read_refused g.text.now g.table.now c.if-table-lt-TABLE_WORDS.false _
     (not_passed _ (placed (goal.at.returns-then-good-ne-ACCEPTED c).Else-placed-ne-ACCEPTED) _ c.take_rows-good.ensures.0 c.if-good-ne-ACCEPTED.true) c.if-good-ne-ACCEPTED.true
 
@@ -38,7 +36,8 @@ passed : (c : Else-good-ne-ACCEPTED) → (rows_good 1 0 0 (frames_of c.args.text
 passed c = ap (λ (t : Told). t.reply) (sym c.take_rows-good.ensures.0) ∙ c.if-good-ne-ACCEPTED.false
 
 pub table_climbs-climbing-requires : goal.table_climbs-climbing-requires
-table_climbs-climbing-requires c = let (n, few, most, pass) = climbs_ready _ _ (placed (goal.at.table_climbs-climbing-requires c).Else-placed-ne-ACCEPTED) (passed (goal.at.table_climbs-climbing-requires c).Else-good-ne-ACCEPTED) (c.take_rows-good.ensures.1 c.if-good-ne-ACCEPTED.false) in
+table_climbs-climbing-requires c =
+    let (n, few, most, pass) = climbs_ready _ _ (placed (goal.at.table_climbs-climbing-requires c).Else-placed-ne-ACCEPTED) (passed (goal.at.table_climbs-climbing-requires c).Else-good-ne-ACCEPTED) (c.take_rows-good.ensures.1 c.if-good-ne-ACCEPTED.false) in
     (n, omega arith, few, most, pass)
 
 -- so what is told of their windows is the reply
@@ -49,14 +48,14 @@ told_is c p z =
     c.table_climbs-climbing.ensures ∙ ap (λ (words : List ℕ). table_climbs words 1) (c.take_rows-good.ensures.1 c.if-good-ne-ACCEPTED.false) ∙ all_passed _ p z
 
 pub returns : goal.returns
-returns c = let g = c.args in
+returns c =
+    let g = c.args in
+    let z : c.table_climbs-climbing.result.reply ≡ 0 = omega arith in
     ap (read_outcome c.table_climbs-climbing.result) c.put_table.ensures
-    ∙ read_accepted g.text.now g.table.now c.if-table-lt-TABLE_WORDS.false _ (told_is (goal.at.returns c).After-table_climbs-climbing (placed (goal.at.returns c).Else-placed-ne-ACCEPTED) (passed (goal.at.returns c).Else-good-ne-ACCEPTED)) c.if-climbing-ne-ACCEPTED.false _
+    ∙ read_accepted g.text.now g.table.now c.if-table-lt-TABLE_WORDS.false _ (told_is (goal.at.returns c).After-table_climbs-climbing (placed (goal.at.returns c).Else-placed-ne-ACCEPTED) (passed (goal.at.returns c).Else-good-ne-ACCEPTED)) z _
     (c.take_rows-good.ensures.1 c.if-good-ne-ACCEPTED.false)
 
 pub returns-then-climbing-ne-ACCEPTED : goal.returns-then-climbing-ne-ACCEPTED
-returns-then-climbing-ne-ACCEPTED c = let g = c.args in
+returns-then-climbing-ne-ACCEPTED c =
+    let g = c.args in
     read_refused g.text.now g.table.now c.if-table-lt-TABLE_WORDS.false _ (told_is (goal.at.returns-then-climbing-ne-ACCEPTED c).After-table_climbs-climbing (placed (goal.at.returns-then-climbing-ne-ACCEPTED c).Else-placed-ne-ACCEPTED) (passed (goal.at.returns-then-climbing-ne-ACCEPTED c).Else-good-ne-ACCEPTED)) c.if-climbing-ne-ACCEPTED.true
-
-pub put_table-requires : goal.put_table-requires
-put_table-requires c = (c.take_rows-good.auto.table ∙ c.blank_table-words.ensures, c.if-table-lt-TABLE_WORDS.false)

@@ -23,21 +23,6 @@ row c =
     let e = sym c.sound_line-line.ensures ∙ c.in-Gives.is in
     (row_next s l.p l.invariant.0 _ e, (framed s l.p l.invariant.0 (Gives _) e refl).room)
 
-pub loop-p-init : goal.loop-p-init
-loop-p-init c = (omega arith, c.requires.1, omega arith)
-
-pub sound_line-line-requires : goal.sound_line-line-requires
-sound_line-line-requires c = (c.loop-p-test.true, c.loop-p.invariant.1)
-
-pub overflow_add-c : goal.overflow_add-c
-overflow_add-c c = omega (arith, row (goal.at.overflow_add-c c).In-Gives)
-
-pub overflow_add-p : goal.overflow_add-p
-overflow_add-p c = omega (arith, row (goal.at.overflow_add-p c).In-Gives)
-
-pub loop-p-smaller : goal.loop-p-smaller
-loop-p-smaller c = omega (arith, row (goal.at.loop-p-smaller c).In-Gives)
-
 pub loop-p-preserved : goal.loop-p-preserved
 loop-p-preserved c =
     let l = c.loop-p in

@@ -1,6 +1,6 @@
 use mathlib.Core.Path.{◌≡◌, sym, ap, subst, ◌∙◌}
 use mathlib.Core.List.{List, [], ◌∷◌}
-use Prim.Native.Nat.{ℕ, ◌+◌, ◌-◌, ◌^◌, ◌≤◌, ◌<◌}
+use Prim.Native.Nat.{ℕ, ◌+◌, ◌-◌, ◌≤◌}
 use native.Mathlib.Omega.{arith}
 use lib.ListN.{length, set}
 use lib.Seq.{sets}
@@ -15,7 +15,7 @@ use Rattle.tables.proofs.Heads.{full}
 use Rattle.reading.proofs.Accepted.{agent_below, agent_open}
 use Rattle.reading.proofs.Accepted as Accepted
 use Rattle.reading.proofs.Sound.{placed_sound}
-use Rattle.reading.proofs.RowsRead.{Turn, first_turn, few_lines, opens_line, open_rows, open_turn, gives_line, row_below, row_turn, row_refused, no_line, no_text}
+use Rattle.reading.proofs.RowsRead.{Turn, first_turn, opens_line, open_rows, open_turn, gives_line, row_below, row_turn, row_refused, no_line, no_text}
 use Rattle.reading.proofs.Loads.{first_words, open_words, row_words, all_words, no_words_left}
 use Rattle.reading.proofs.reading.take_rows.Goals as goal
 use Rattle.reading.proofs.reading.take_rows.Goals.{After-row_reply-reply, After-word-late, In-Gives, In-Opens}
@@ -29,12 +29,12 @@ loop-p-init c = (
 pub sound_line-line-requires : goal.sound_line-line-requires
 sound_line-line-requires c = (c.loop-p-test.true, placed_sound _ _ _ _ c.loop-p.invariant.0.placed)
 
-opens_here : (c : In-Opens)
-    → line_at c.args.text.now c.loop-p.p ≡ Opens c.in-Opens.field-0
+-- ---- an agent is opened
+
+opens_here : (c : In-Opens) → line_at c.args.text.now c.loop-p.p ≡ Opens c.in-Opens.field-0
 opens_here c = sym c.sound_line-line.ensures ∙ c.in-Opens.is
 
-room : (c : In-Opens)
-    → c.loop-p.p + 37 ≤ length c.args.text.now
+room : (c : In-Opens) → c.loop-p.p + 37 ≤ length c.args.text.now
 room c = (opens_line c.loop-p.invariant.0 (opens_here c)).room
 
 pub put_agent-requires : goal.put_agent-requires
@@ -43,23 +43,11 @@ put_agent-requires c =
     let o = opens_here (goal.at.put_agent-requires c).In-Opens in
     (t.1.within, (opens_line t.0 o).digits, t.1.words, agent_below _ _ t.1.within t.1.placed o)
 
-pub overflow_add-p : goal.overflow_add-p
-overflow_add-p c = omega (arith, room (goal.at.overflow_add-p c).In-Opens)
-
-pub overflow_add-n : goal.overflow_add-n
-overflow_add-n c = omega (arith, few_lines c.loop-p.invariant.0)
-
-pub overflow_add-a : goal.overflow_add-a
-overflow_add-a c = omega (arith, c.loop-p.invariant.1.placed.agents)
-
 pub rows_next-c-requires : goal.rows_next-c-requires
 rows_next-c-requires c =
     let t = c.loop-p.invariant.0 in
     let o = opens_here (goal.at.rows_next-c-requires c).In-Opens in
     (room (goal.at.rows_next-c-requires c).In-Opens, placed_sound _ _ _ _ (open_turn t o).placed, open_rows t o)
-
-pub loop-p-smaller-in-Opens : goal.loop-p-smaller-in-Opens
-loop-p-smaller-in-Opens c = omega (arith, room (goal.at.loop-p-smaller-in-Opens c).In-Opens)
 
 pub loop-p-preserved-in-Opens : goal.loop-p-preserved-in-Opens
 loop-p-preserved-in-Opens c =
@@ -72,22 +60,15 @@ loop-p-preserved-in-Opens c =
       open_words l.invariant.1 o _ c.put_agent.ensures,
     )
 
-gives_here : (c : In-Gives)
-    → line_at c.args.text.now c.loop-p.p ≡ Gives c.in-Gives.field-0
+-- ---- a row is given
+
+gives_here : (c : In-Gives) → line_at c.args.text.now c.loop-p.p ≡ Gives c.in-Gives.field-0
 gives_here c = sym c.sound_line-line.ensures ∙ c.in-Gives.is
-
-row_room : (c : In-Gives)
-    → c.loop-p.p + 37 ≤ length c.args.text.now
-row_room c = (gives_line c.loop-p.invariant.0 (gives_here c)).room
-
--- said here, where `omega` still reaches the text's length
-row_fits : (c : In-Gives) → c.loop-p.p + 37 < 2 ^ 64
-row_fits c = omega (arith, row_room c)
 
 pub word-code-requires : goal.word-code-requires
 word-code-requires c =
     let t = c.loop-p.invariant.0 in
-    (t.within, (gives_line t (gives_here ((goal.at.word-code-requires c).In-Gives))).digits, omega arith)
+    (t.within, (gives_line t (gives_here (goal.at.word-code-requires c).In-Gives)).digits, omega arith)
 
 pub word-k-requires : goal.word-k-requires
 word-k-requires c =
@@ -123,14 +104,8 @@ reply_is : (c : After-row_reply-reply) → (ws : List ℕ)
 reply_is c ws e =
     ap (λ (ws : List ℕ). row_reply (row_in ws) c.loop-p.i c.loop-p.c) (sym e) ∙ sym c.row_reply-reply.ensures
 
-pub overflow_cast-i : goal.overflow_cast-i
-overflow_cast-i c = omega (arith, row_below c.loop-p.invariant.0 (gives_here (goal.at.overflow_cast-i c).In-Gives))
-
 pub row_reply-reply-requires : goal.row_reply-reply-requires
 row_reply-reply-requires c = (row_below c.loop-p.invariant.0 (gives_here (goal.at.row_reply-reply-requires c).In-Gives)).0
-
-pub shape_of-table-then-reply-ne-ACCEPTED : goal.shape_of-table-then-reply-ne-ACCEPTED
-shape_of-table-then-reply-ne-ACCEPTED c = c.loop-p.invariant.1.words ∙ sym c.requires.1
 
 pub returns-then-reply-ne-ACCEPTED : goal.returns-then-reply-ne-ACCEPTED
 returns-then-reply-ne-ACCEPTED c = (
@@ -139,32 +114,21 @@ returns-then-reply-ne-ACCEPTED c = (
 )
 
 pub put_row-requires : goal.put_row-requires
-put_row-requires c = let t = c.loop-p.invariant.1 in
+put_row-requires c =
+    let t = c.loop-p.invariant.1 in
     let g = gives_here (goal.at.put_row-requires c).In-Gives in
     (t.words, agent_open _ _ t.within t.placed g, t.placed.agents, Accepted.row_below _ _ t.within t.placed g)
 
-pub overflow_add-p-in-Gives : goal.overflow_add-p-in-Gives
-overflow_add-p-in-Gives c = omega (arith, row_fits (goal.at.overflow_add-p-in-Gives c).In-Gives)
-
-pub overflow_add-n-in-Gives : goal.overflow_add-n-in-Gives
-overflow_add-n-in-Gives c = omega (arith, few_lines c.loop-p.invariant.0)
-
-pub overflow_add-i : goal.overflow_add-i
-overflow_add-i c = omega (arith, row_below c.loop-p.invariant.0 (gives_here (goal.at.overflow_add-i c).In-Gives))
-
-pub loop-p-smaller : goal.loop-p-smaller
-loop-p-smaller c = omega (arith, row_room (goal.at.loop-p-smaller c).In-Gives)
-
 pub loop-p-preserved : goal.loop-p-preserved
-loop-p-preserved c = let l = c.loop-p in (
-  row_turn l.invariant.0 (gives_here (goal.at.loop-p-preserved c).In-Gives) (reply_is (goal.at.loop-p-preserved c).After-row_reply-reply _ (words_are (goal.at.loop-p-preserved c).After-word-late) ∙ c.if-reply-ne-ACCEPTED.false),
-  row_words l.invariant.1 (gives_here (goal.at.loop-p-preserved c).In-Gives) _
-      (c.put_row.ensures
-      ∙ ap (λ (ws : List ℕ). sets (set l.table (count_place (l.a - 1)) (l.i + 1)) (row_place (l.a - 1) l.i) ws) (words_are (goal.at.loop-p-preserved c).After-word-late)),
-)
+loop-p-preserved c =
+    let l = c.loop-p in (
+      row_turn l.invariant.0 (gives_here (goal.at.loop-p-preserved c).In-Gives) (reply_is (goal.at.loop-p-preserved c).After-row_reply-reply _ (words_are (goal.at.loop-p-preserved c).After-word-late) ∙ c.if-reply-ne-ACCEPTED.false),
+      row_words l.invariant.1 (gives_here (goal.at.loop-p-preserved c).In-Gives) _
+          (c.put_row.ensures
+          ∙ ap (λ (ws : List ℕ). sets (set l.table (count_place (l.a - 1)) (l.i + 1)) (row_place (l.a - 1) l.i) ws) (words_are (goal.at.loop-p-preserved c).After-word-late)),
+    )
 
-pub shape_of-table-in_default : goal.shape_of-table-in_default
-shape_of-table-in_default c = c.loop-p.invariant.1.words ∙ sym c.requires.1
+-- ---- the end
 
 pub returns-in_default : goal.returns-in_default
 returns-in_default c =
@@ -172,9 +136,6 @@ returns-in_default c =
     let t = c.loop-p.invariant in
     let f = ap full (sym q.ensures) ∙ no_frame q.result c.in_default.not-Opens c.in_default.not-Gives in
     (sym (no_line t.0 f), λ z. all_words t.1 f)
-
-pub shape_of-table : goal.shape_of-table
-shape_of-table c = c.loop-p.invariant.1.words ∙ sym c.requires.1
 
 pub returns : goal.returns
 returns c =

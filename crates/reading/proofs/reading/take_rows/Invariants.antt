@@ -1,7 +1,4 @@
 -- The invariant is `Turn`, for the replies, with `Filling`, for the table. Assumes nothing.
--- ---- an agent is opened
--- ---- a row is given
--- ---- the end
 use Prim.Native.Nat.{◌-◌}
 use lib.ListN.{length}
 use Rattle.reading.proofs.RowsRead.{Turn}

@@ -1,7 +1,6 @@
 use native.Mathlib.Omega.{arith}
 use borrow.Author.Rules.{rules}
 use mathlib.Core.Path.{refl, ◌∙◌}
-use Prim.Native.Nat.{◌-◌}
 use Rattle.tables.proofs.FirstLine.{line_stop, line_on, line_none}
 use Rattle.traces.proofs.input.next_line.Goals as goal
 

@@ -2,7 +2,7 @@ use Rattle.tables.proofs.Heads.{end_room}
 use native.Mathlib.Omega.{arith}
 use mathlib.Core.Path.{◌≡◌, sym, ◌∙◌}
 use mathlib.Core.Bool.{true, false}
-use Prim.Native.Nat.{◌+◌, ◌-◌, ◌≤◌}
+use Prim.Native.Nat.{◌+◌, ◌≤◌}
 use lib.ListN.{length}
 use Rattle.tables.specs.Heads.{end_at}
 use Rattle.traces.proofs.Places.{end_bytes, end_count, table_bytes_lem, table_count, nothing_left}

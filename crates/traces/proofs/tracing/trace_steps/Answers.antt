@@ -3,7 +3,7 @@ use borrow.Author.Rules.{rules}
 use mathlib.Core.Path.{◌≡◌, refl, sym, ap, ◌∙◌}
 use Rattle.tables.specs.Heads.{digits_at}
 use mathlib.Core.Bool.{true}
-use Prim.Native.Nat.{◌+◌, ◌-◌, ◌≤◌, ◌<◌}
+use Prim.Native.Nat.{◌+◌, ◌≤◌, ◌<◌}
 use lib.ListN.{length, length-set}
 use Rattle.tables.proofs.Heads.{field_asks}
 use Rattle.choices.specs.Step.{choice_reply}

@@ -1,21 +1,14 @@
 -- `put_line` meets its contract: four runs of stores, each where the one before it ends. Assumes nothing.
 use native.Mathlib.Omega.{arith}
-use mathlib.Core.Path.{◌≡◌, refl, ◌∙◌}
+use mathlib.Core.Path.{◌≡◌, refl}
 use mathlib.Core.List.{[], ◌∷◌, ◌++◌}
 use Prim.Native.Nat.{◌+◌}
-use lib.ListN.{length, set, length-set}
+use lib.ListN.{length, set}
 use Rattle.digits.specs.Hex.{hex_digits, hex_words}
 use Rattle.tables.proofs.Stored.{run_then}
 use Rattle.digits.proofs.Writes.{digits_then, hex_words_length}
 use Rattle.writing.specs.Writer.{four_at, frame_line}
 use Rattle.writing.proofs.lines.put_line.Goals as goal
-
-pub shape_of-text : goal.shape_of-text
-shape_of-text c =
-    length-set c.put_four.new.out _ _
-    ∙ c.put_four.auto.out
-    ∙ c.put_hex-2.auto.out
-    ∙ c.put_hex.auto.out
 
 pub returns : goal.returns
 unfolding frame_line

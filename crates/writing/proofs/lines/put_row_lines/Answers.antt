@@ -1,16 +1,10 @@
 use native.Mathlib.Omega.{arith}
-use mathlib.Core.Path.{◌≡◌, refl, ap, ◌∙◌}
+use mathlib.Core.Path.{◌≡◌, ap, ◌∙◌}
 use Prim.Native.Nat.{ℕ, ◌-◌}
 use lib.Seq.{sets}
 use Rattle.writing.specs.Writer.{four_at, frame_line, lines_of, rows_from}
 use Rattle.writing.proofs.Turns.{row_turn}
 use Rattle.writing.proofs.lines.put_row_lines.Goals as goal
-
-pub loop-i-init : goal.loop-i-init
-loop-i-init c =
-    let g = c.args in
-    let e : g.c - 0 ≡ g.c = omega arith in
-    (ap (λ (n : ℕ). sets g.text.now g.at (lines_of (rows_from g.table.now g.a 0 n))) e, omega arith, omega arith, refl)
 
 pub loop-i-preserved : goal.loop-i-preserved
 loop-i-preserved c =
@@ -23,9 +17,6 @@ loop-i-preserved c =
       omega arith,
       q.auto.text ∙ l.invariant.3,
     )
-
-pub shape_of-text : goal.shape_of-text
-shape_of-text c = c.loop-i.invariant.3
 
 pub returns : goal.returns
 unfolding lines_of rows_from

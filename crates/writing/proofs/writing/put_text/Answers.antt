@@ -1,5 +1,4 @@
 use native.Mathlib.Omega.{arith}
-use mathlib.Core.Path.{◌∙◌}
 use Rattle.tables.proofs.Good.{few, few_rows}
 use Rattle.writing.proofs.Turns.{all_left, agent_room, end_room, next_left, none_left_lem}
 use borrow.Author.Rules.{rules}
@@ -38,15 +37,6 @@ put_row_lines-requires c =
     let r = agent_room t c.requires.2 h in
     (omega arith, c.requires.0, omega arith, omega arith)
 
-pub overflow_mul-at : goal.overflow_mul-at
-overflow_mul-at c =
-    let t = c.loop-a.invariant in
-    let e = t.all in
-    let h = c.loop-a-test.true in
-    let m = few_rows _ c.requires.1 c.loop-a.a (omega arith) in
-    let k = c.row_count-c.ensures in
-    omega arith
-
 pub overflow_add-at-in-loop-a : goal.overflow_add-at-in-loop-a
 overflow_add-at-in-loop-a c =
     let t = c.loop-a.invariant in
@@ -63,6 +53,3 @@ loop-a-preserved c =
 
 pub put_end_line-requires : goal.put_end_line-requires
 put_end_line-requires c = end_room c.loop-a.invariant c.requires.2 c.loop-a-test.false
-
-pub shape_of-text : goal.shape_of-text
-shape_of-text c = c.put_end_line.auto.text ∙ c.loop-a.invariant.same
