@@ -59,7 +59,7 @@ pub record Types : Type 1 where
 module _ (T : Types) where
   open T use {State, agents, init_state, ended, rows, place, instr_at, visible}
 
-  -- instr_of(s). 01: a state holds no agent number, so the agent is told.
+  -- instrOf(s). 01: a state holds no agent number, so the agent is told.
   abbrev pub instr_of : ℕ → State → Dated State
   instr_of a s = instr_at a (place s)
 

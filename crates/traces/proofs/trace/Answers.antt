@@ -40,12 +40,6 @@ slice_bounds-read-end c = sym (length-take-le _ _ c.table_end-end.ensures.2)
 pub returns-then-told-ne-ACCEPTED : goal.returns-then-told-ne-ACCEPTED
 returns-then-told-ne-ACCEPTED c = one_line _ _ _ _ _ c.if-out-lt-LONGEST_OUTPUT.false _ _ (table_refused (reading (goal.at.returns-then-told-ne-ACCEPTED c).After-read-told) c.if-told-ne-ACCEPTED.true) c.finish-then-told-ne-ACCEPTED.ensures
 
-pub returns-then-bad-ne-ACCEPTED : goal.returns-then-bad-ne-ACCEPTED
-returns-then-bad-ne-ACCEPTED c =
-    one_line _ _ _ _ _ c.if-out-lt-LONGEST_OUTPUT.false _ _
-    (choice_faulty (reading (goal.at.returns-then-bad-ne-ACCEPTED c).After-read-told) c.if-told-ne-ACCEPTED.false c.first_bad_choice-bad.ensures c.if-bad-ne-ACCEPTED.true)
-    c.finish-then-bad-ne-ACCEPTED.ensures
-
 pub returns : goal.returns
 returns c =
     let tb = c.read-told.new.table in
@@ -63,3 +57,9 @@ trace_steps-requires c =
       ap (λ (l : List ℕ). (bad_choice 1 (lines l)).reply) (to_end c.args.input.now c.table_end-end.result.at) ∙ none_faulty r z c.first_bad_choice-bad.ensures c.if-bad-ne-ACCEPTED.false,
       c.if-out-lt-LONGEST_OUTPUT.false,
     )
+
+pub returns-then-bad-ne-ACCEPTED : goal.returns-then-bad-ne-ACCEPTED
+returns-then-bad-ne-ACCEPTED c =
+    one_line _ _ _ _ _ c.if-out-lt-LONGEST_OUTPUT.false _ _
+    (choice_faulty (reading (goal.at.returns-then-bad-ne-ACCEPTED c).After-read-told) c.if-told-ne-ACCEPTED.false c.first_bad_choice-bad.ensures c.if-bad-ne-ACCEPTED.true)
+    c.finish-then-bad-ne-ACCEPTED.ensures
