@@ -74,8 +74,8 @@ module _ (tb : List ℕ) (table : Table tb) where
 
     ready_here : Ready (here st)
     ready_here b real live =
-        let in_words_lem = state_low tb st b (low tb st table.good real) in
-        rw in_words_lem (fit.late b real (leb-false _ _ (rw in_words_lem at live)))
+        let in_words = state_low tb st b (low tb st table.good real) in
+        rw in_words (fit.late b real (leb-false _ _ (rw in_words at live)))
 
     live : (b : ℕ) → b < agents tb → pos st b < rows tb b → leb (rows tb b) ((decode tb st).st b).pos ≡ false
     live b h l = rw (state_low tb st b (low tb st table.good h)) (lt-leb (rows tb b) (pos st b) l)

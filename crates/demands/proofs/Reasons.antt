@@ -46,14 +46,14 @@ module _ (tb st : List ℕ) (good : good_table tb ≡ true) (t : ℕ) where
   overdue e =
       let (b, h, fails) = some_fails (agents tb) _ e in
       let (live, late) = neither (not (ltb (pos st b) (rows tb b))) (leb t (current tb st b).late) fails in
-      let in_words_lem = state_low tb st b (low tb st good h) in
-      (b, h, rw in_words_lem (lt-leb (rows tb b) (pos st b) (ltb-true (pos st b) (rows tb b) (not-false _ live))), rw in_words_lem (leb-false _ _ late))
+      let in_words = state_low tb st b (low tb st good h) in
+      (b, h, rw in_words (lt-leb (rows tb b) (pos st b) (ltb-true (pos st b) (rows tb b) (not-false _ live))), rw in_words (leb-false _ _ late))
 
   not_overdue : in_time tb st t ≡ true → Overdue (decode tb st) t → ⊥
   not_overdue e (b, h, live, over) =
-      let in_words_lem = state_low tb st b (low tb st good h) in
-      let due = in_time_lem tb st t e b h (leb-false _ _ (rw in_words_lem at live)) in
-      let past : (current tb st b).late < t = rw in_words_lem at over in
+      let in_words = state_low tb st b (low tb st good h) in
+      let due = in_time_lem tb st t e b h (leb-false _ _ (rw in_words at live)) in
+      let past : (current tb st b).late < t = rw in_words at over in
       omega arith
 
 module _ (tb st : List ℕ) (good : good_table tb ≡ true) (a t : ℕ) where
@@ -62,8 +62,8 @@ module _ (tb st : List ℕ) (good : good_table tb ≡ true) (a t : ℕ) where
   first_reason =
       tested_first {ps = reasons (decode tb st) a t}
       (test (leb-true _ _) (λ e p. let n = leb-false (agents tb) a e in omega arith) (λ e.
-      let in_words_lem = state_low tb st a (low tb st good (leb-false (agents tb) a e)) in
-      test (λ e. rw in_words_lem e) (λ e p. true≢false (sym p ∙ rw in_words_lem e)) (λ _.
+      let in_words = state_low tb st a (low tb st good (leb-false (agents tb) a e)) in
+      test (λ e. rw in_words e) (λ e p. true≢false (sym p ∙ rw in_words e)) (λ _.
       test (ltb-true _ _) (λ e p. let n = ltb-false t (clock st) e in omega arith) (λ _.
-      test (λ e. rw in_words_lem (ltb-true _ _ e)) (λ e p. let n = ltb-false t (current tb st a).early e in let m : t < (current tb st a).early = rw in_words_lem at p in omega arith) (λ _.
+      test (λ e. rw in_words (ltb-true _ _ e)) (λ e p. let n = ltb-false t (current tb st a).early e in let m : t < (current tb st a).early = rw in_words at p in omega arith) (λ _.
       test (λ e. overdue tb st good t (not-true (in_time tb st t) e)) (λ e. not_overdue tb st good t (not-false (in_time tb st t) e)) (λ _. none_left_lem))))))

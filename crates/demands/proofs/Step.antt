@@ -53,13 +53,13 @@ module _ (tb st : List ℕ) (good : good_table tb ≡ true) where
 
     pub allowed_accepts : ModelAllows (decode tb st) a t → Accepts tb st a t
     allowed_accepts (post, at, e) =
-        let in_words_lem = state_low tb st a (low e.real) in
+        let in_words = state_low tb st a (low e.real) in
         let g = subst (GoodNextTime (published tb) (decode tb st) a) at e.good in
         record {
           agent = e.real;
-          unended = leb-false _ _ (rw in_words_lem at e.live);
+          unended = leb-false _ _ (rw in_words at e.live);
           clock = g.after;
-          early = rw in_words_lem at g.begun;
+          early = rw in_words at g.begun;
           late = λ b h unended. rw (state_low tb st b (low h)) at (g.fits b h (rw (state_low tb st b (low h)) (lt-leb _ _ unended)));
         }
 
@@ -116,15 +116,15 @@ module _ (tb st : List ℕ) (good : good_table tb ≡ true) (long : length st �
   by_message : (m : Best) → Received (published tb) (sent_of st) (dated (current tb st a)) (value_of m)
       → after (current tb st a) m (agent_at st a) ≡ next tb st a → Does
   by_message m received same =
-      let in_words_lem = state_low tb st a low_agent in
+      let in_words = state_low tb st a low_agent in
       record {
         real = c.agent;
         live = live tb st good a t c;
         good = subst (GoodNextTime (published tb) (decode tb st) a) (sym (accepted_clock tb st a t long low_agent)) (good_time tb st good a t c);
         got = value_of m;
-        received = rw in_words_lem received;
-        st = fun_ext λ b. new_state _ (ap (λ s. (exec (published tb) a s (sent_of st) (value_of m)).0) in_words_lem ∙ effect tb a (agent_at st a) (sent_of st) (current tb st a) m ∙ same) b (ℕ_discrete a b);
-        msgs = new_messages ∙ sym (posted tb a (agent_at st a) (sent_of st) (current tb st a) (value_of m)) ∙ ap (λ s. (exec (published tb) a s (sent_of st) (value_of m)).1) (sym in_words_lem);
+        received = rw in_words received;
+        st = fun_ext λ b. new_state _ (ap (λ s. (exec (published tb) a s (sent_of st) (value_of m)).0) in_words ∙ effect tb a (agent_at st a) (sent_of st) (current tb st a) m ∙ same) b (ℕ_discrete a b);
+        msgs = new_messages ∙ sym (posted tb a (agent_at st a) (sent_of st) (current tb st a) (value_of m)) ∙ ap (λ s. (exec (published tb) a s (sent_of st) (value_of m)).1) (sym in_words);
       }
 
   pub does : Does

@@ -168,7 +168,7 @@ count_bound tb good from long fit cs st ds n e =
 pub record Turning (L : Type 0) (tb st ls : List ℕ) (d : ℕ) : Type 0 where
   pub left : L
   pub lates : Lates tb st ls
-  pub in_time_lem : above_none ls d ≡ true
+  pub deadline_in_time : above_none ls d ≡ true
 
 -- ---- one turn of the loop over the choices cs
 

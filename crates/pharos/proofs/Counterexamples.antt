@@ -21,7 +21,7 @@ never_differ T ok d = d.differ (ap (λ f. f d.agent) (behaviours_end_alike T ok 
 pub exact_never_differs : ExactNeverDiffers
 exact_never_differs e l = never_differ (table exact e) (record {
   instr_of_type = λ a s _ _. let w = window a in omega arith;
-  Update_monotonic = λ a s _ _ msgs got goes_on_lem. absurd (true≢false (sym (one_row a s msgs got) ∙ goes_on_lem));
+  Update_monotonic = λ a s _ _ msgs got goes_on. absurd (true≢false (sym (one_row a s msgs got) ∙ goes_on));
   visible_cond = λ di dj. ltb-true di.late dj.early;
 })
   where

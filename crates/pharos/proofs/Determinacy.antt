@@ -65,7 +65,7 @@ module _ {M : Model} where
       let here : h.agent a ≡ f.agent a = cc in
       let same-early = ap (λ x. early a x.state) here in
       let same-late = ap (λ x. late a x.state) here in
-      let in_time_lem = ok.fits a ok.real ok.live in
+      let in_time = ok.fits a ok.real ok.live in
       let in-time' = ok'.fits a ok'.real ok'.live in
       ⊎_elim (λ p. quiet a s c t r q ok.real ok.live p (ok.fits c) ok.begun (omega arith))
       (λ p. sym (quiet a s c v q r ok.real ok.live p (ok'.fits c) (omega arith) (omega arith)))

@@ -4,6 +4,7 @@ ghost use Rattle.tables.specs.Lines as Lines;
 ghost use Rattle.tables.specs.Heads.{digits_at, two_bytes, eight_bytes};
 
 // The number that an upper-case hexadecimal digit stands for, 16 for any other byte.
+#[tactic(auto, using(crate::proofs::Tests::firsts), unfolding(crate::specs::Lines::hex_digit))]
 pub fn digit(b: u8) -> u32
     ensures { result ≡ Lines.hex_digit b }
 {

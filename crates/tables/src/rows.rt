@@ -15,6 +15,7 @@ const SKIP: u32 = 0x10;
 pub const JUMP: u32 = 0x11;
 
 // The family that an op is in: the one place where an op's number is matched.
+#[tactic(auto, using(crate::proofs::Tests::firsts), unfolding(crate::specs::Family::family_of))]
 pub fn family_of(op: u32) -> Family
     ensures { result ≡ family_of op }
 {

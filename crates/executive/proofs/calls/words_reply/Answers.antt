@@ -4,7 +4,7 @@ use native.Mathlib.Omega.{arith}
 use lib.Seq.{length-take-le}
 use borrow.Author.Tests.{lt-ltb, le-ltb}
 use Rattle.tables.specs.Basics.{first}
-use Rattle.tables.proofs.Tests.{answered_no, answered_yes}
+use Rattle.tables.proofs.Tests.{answered}
 use Rattle.executive.specs.Calls.{words_reply}
 use Rattle.executive.proofs.calls.words_reply.Goals as goal
 
@@ -24,18 +24,18 @@ table_is_good-requires c = length-take-le 2129 c.args.table.now (omega arith)
 
 pub returns-then-not-table_is_good : goal.returns-then-not-table_is_good
 unfolding words_reply first
-returns-then-not-table_is_good c = rw (le-ltb _ _ c.if-table-lt-TABLE_WORDS.false, le-ltb _ _ c.if-state-lt-STATE_WORDS.false, answered_no _ _ c.table_is_good.ensures c.if-not-table_is_good.true)
+returns-then-not-table_is_good c = rw (le-ltb _ _ c.if-table-lt-TABLE_WORDS.false, le-ltb _ _ c.if-state-lt-STATE_WORDS.false, answered _ _ c.table_is_good.ensures c.if-not-table_is_good.true)
 
 pub slice_bounds-state_fits-end : goal.slice_bounds-state_fits-end
 slice_bounds-state_fits-end c = sym (length-take-le 1105 c.args.state.now (omega arith))
 
 pub state_fits-requires : goal.state_fits-requires
-state_fits-requires c = (length-take-le 2129 c.args.table.now (omega arith), length-take-le 1105 c.args.state.now (omega arith), answered_yes _ _ c.table_is_good.ensures c.if-not-table_is_good.false)
+state_fits-requires c = (length-take-le 2129 c.args.table.now (omega arith), length-take-le 1105 c.args.state.now (omega arith), answered _ _ c.table_is_good.ensures c.if-not-table_is_good.false)
 
 pub returns-then-not-state_fits : goal.returns-then-not-state_fits
 unfolding words_reply first
-returns-then-not-state_fits c = rw (le-ltb _ _ c.if-table-lt-TABLE_WORDS.false, le-ltb _ _ c.if-state-lt-STATE_WORDS.false, answered_yes _ _ c.table_is_good.ensures c.if-not-table_is_good.false, answered_no _ _ c.state_fits.ensures c.if-not-state_fits.true)
+returns-then-not-state_fits c = rw (le-ltb _ _ c.if-table-lt-TABLE_WORDS.false, le-ltb _ _ c.if-state-lt-STATE_WORDS.false, answered _ _ c.table_is_good.ensures c.if-not-table_is_good.false, answered _ _ c.state_fits.ensures c.if-not-state_fits.true)
 
 pub returns : goal.returns
 unfolding words_reply first
-returns c = rw (le-ltb _ _ c.if-table-lt-TABLE_WORDS.false, le-ltb _ _ c.if-state-lt-STATE_WORDS.false, answered_yes _ _ c.table_is_good.ensures c.if-not-table_is_good.false, answered_yes _ _ c.state_fits.ensures c.if-not-state_fits.false)
+returns c = rw (le-ltb _ _ c.if-table-lt-TABLE_WORDS.false, le-ltb _ _ c.if-state-lt-STATE_WORDS.false, answered _ _ c.table_is_good.ensures c.if-not-table_is_good.false, answered _ _ c.state_fits.ensures c.if-not-state_fits.false)

@@ -2,7 +2,7 @@ use mathlib.Core.Path.{◌≡◌, sym}
 use native.Mathlib.Omega.{arith}
 use Rattle.tables.specs.Layout.{agents}
 use Rattle.tables.proofs.Good.{few, few_rows}
-use Rattle.tables.proofs.Tests.{answered_no, answered_yes}
+use Rattle.tables.proofs.Tests.{answered}
 use Rattle.tables.proofs.Passed.{not_all_below}
 use Rattle.tables.proofs.Loops.{below_none, below_next}
 use Rattle.executive.proofs.checking.agents_are_good.Goals as goal
@@ -18,12 +18,12 @@ places_are_good-requires c = let short = few_rows c.args.table.now c.requires.2 
     omega arith
 
 pub returns-then-not-places_are_good : goal.returns-then-not-places_are_good
-returns-then-not-places_are_good c = sym (not_all_below _ _ c.loop-a.a (omega arith) (answered_no _ _ c.places_are_good.ensures c.if-not-places_are_good.true))
+returns-then-not-places_are_good c = sym (not_all_below _ _ c.loop-a.a (omega arith) (answered _ _ c.places_are_good.ensures c.if-not-places_are_good.true))
 
 pub loop-a-preserved : goal.loop-a-preserved
 loop-a-preserved c =
     let l = c.loop-a in
-    (omega arith, l.invariant.1, below_next _ _ l.invariant.2 (answered_yes _ _ c.places_are_good.ensures c.if-not-places_are_good.false))
+    (omega arith, l.invariant.1, below_next _ _ l.invariant.2 (answered _ _ c.places_are_good.ensures c.if-not-places_are_good.false))
 
 pub returns : goal.returns
 returns c =

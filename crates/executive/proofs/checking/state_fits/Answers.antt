@@ -3,11 +3,21 @@ use mathlib.Core.Path.{◌∙◌}
 use native.Mathlib.Omega.{arith}
 use borrow.Author.Tests.{le-leb, lt-leb}
 use Rattle.tables.proofs.Good.{few}
-use Rattle.tables.proofs.Tests.{answered_no, answered_yes}
+use Rattle.tables.proofs.Tests.{answered}
 use Rattle.tables.proofs.Passed.{every_stop, every_go}
 use Rattle.choices.specs.Fit.{fits}
 use Rattle.choices.proofs.Lates.{in_time_lates}
 use Rattle.executive.proofs.checking.state_fits.Goals as goal
+
+pub returns : goal.returns
+unfolding fits
+returns c = let k = c.clock-t in
+    rw (← k.ensures, ← c.agent_count.ensures)
+    (every_go _ _ _ (le-leb _ _ c.if-t-lt1.false)
+    (every_go _ _ _ (le-leb _ _ c.if-t-gt-LAST_TIME.false)
+    (every_go _ _ _ (in_time_lates c.args.table.now c.requires.2 c.args.state.now _ c.load_lates-lates.ensures k.result (omega arith) ∙ c.deadline.ensures k.result (omega arith) ∙ le-leb _ _ c.if-deadline-t.false)
+    (every_go _ _ _ (rw (← c.agent_count.ensures) at (answered _ _ c.agents_are_good.ensures c.if-not-agents_are_good.false))
+    c.unused_are_zero.ensures))))
 
 pub returns-then-t-lt1 : goal.returns-then-t-lt1
 unfolding fits
@@ -38,18 +48,8 @@ returns-then-not-agents_are_good c = let k = c.clock-t in
     (every_go _ _ _ (le-leb _ _ c.if-t-lt1.false)
     (every_go _ _ _ (le-leb _ _ c.if-t-gt-LAST_TIME.false)
     (every_go _ _ _ (in_time_lates c.args.table.now c.requires.2 c.args.state.now _ c.load_lates-lates.ensures k.result (omega arith) ∙ c.deadline.ensures k.result (omega arith) ∙ le-leb _ _ c.if-deadline-t.false)
-    (every_stop _ _ (answered_no _ _ c.agents_are_good.ensures c.if-not-agents_are_good.true)))))
+    (every_stop _ _ (answered _ _ c.agents_are_good.ensures c.if-not-agents_are_good.true)))))
 
 pub unused_are_zero-requires : goal.unused_are_zero-requires
 unused_are_zero-requires c = let low = few c.args.table.now c.requires.2 in
     omega arith
-
-pub returns : goal.returns
-unfolding fits
-returns c = let k = c.clock-t in
-    rw (← k.ensures, ← c.agent_count.ensures)
-    (every_go _ _ _ (le-leb _ _ c.if-t-lt1.false)
-    (every_go _ _ _ (le-leb _ _ c.if-t-gt-LAST_TIME.false)
-    (every_go _ _ _ (in_time_lates c.args.table.now c.requires.2 c.args.state.now _ c.load_lates-lates.ensures k.result (omega arith) ∙ c.deadline.ensures k.result (omega arith) ∙ le-leb _ _ c.if-deadline-t.false)
-    (every_go _ _ _ (rw (← c.agent_count.ensures) at (answered_yes _ _ c.agents_are_good.ensures c.if-not-agents_are_good.false))
-    c.unused_are_zero.ensures))))

@@ -23,11 +23,11 @@ loop-i-init c = record {
     ends = refl;
   };
   lates = c.load_lates-lates.ensures;
-  in_time_lem = zero_above_none _;
+  deadline_in_time = zero_above_none _;
 }
 
 pub deadline_for-deadline-requires : goal.deadline_for-deadline-requires
-deadline_for-deadline-requires c = (c.loop-i.invariant.lates.size, c.loop-i.invariant.in_time_lem)
+deadline_for-deadline-requires c = (c.loop-i.invariant.lates.size, c.loop-i.invariant.deadline_in_time)
 
 pub choice_reply-reply-requires : goal.choice_reply-reply-requires
 choice_reply-reply-requires c =
@@ -103,7 +103,7 @@ loop-i-preserved c =
     record {
       left = turn_goes c.args.table.now c.requires.2 from (whole_length c.args.state.now c.args.regs c.requires.1) c.requires.4 c.args.choices.now c.requires.3 l.state l.all l.count l.i l.invariant.left c.loop-i-test.true c0 _ _ made;
       lates = lates_after c.args.table.now l.state l.all _ _ _ _ made l.invariant.left.long l.invariant.left.wide low l.lates l.invariant.lates _ c.late_at.ensures;
-      in_time_lem = deadline_after c.args.table.now l.state l.all _ _ _ _ made l.invariant.left.long l.invariant.left.wide low c.requires.2 c0 l.lates l.invariant.lates _ c.deadline_for-deadline.ensures.1 _ c.late_at.ensures;
+      deadline_in_time = deadline_after c.args.table.now l.state l.all _ _ _ _ made l.invariant.left.long l.invariant.left.wide low c.requires.2 c0 l.lates l.invariant.lates _ c.deadline_for-deadline.ensures.1 _ c.late_at.ensures;
     }
 
 pub store_registers-requires-2 : goal.store_registers-requires-2

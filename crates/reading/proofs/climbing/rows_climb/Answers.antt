@@ -1,17 +1,17 @@
 use borrow.Author.Rules.{rules}
-use Rattle.tables.proofs.Tests.{answered_no, answered_yes}
+use Rattle.tables.proofs.Tests.{answered}
 use Rattle.reading.proofs.Climbs.{next_row, goes_back, no_row}
 use Rattle.reading.proofs.climbing.rows_climb.Goals as goal
 
 pub loop-i-preserved : goal.loop-i-preserved
 loop-i-preserved c = (
-  next_row _ _ _ _ _ c.loop-i.invariant.0 c.loop-i-test.true (answered_yes _ _ c.row_climbs.ensures c.if-not-row_climbs.false),
+  next_row _ _ _ _ _ c.loop-i.invariant.0 c.loop-i-test.true (answered _ _ c.row_climbs.ensures c.if-not-row_climbs.false),
   search rules,
 )
 
 pub returns-then-not-row_climbs : goal.returns-then-not-row_climbs
 returns-then-not-row_climbs c =
-    goes_back _ _ _ _ _ c.loop-i.invariant.0 c.loop-i-test.true (answered_no _ _ c.row_climbs.ensures c.if-not-row_climbs.true)
+    goes_back _ _ _ _ _ c.loop-i.invariant.0 c.loop-i-test.true (answered _ _ c.row_climbs.ensures c.if-not-row_climbs.true)
 
 pub returns : goal.returns
 returns c = no_row _ _ _ _ _ c.loop-i.invariant.0 c.loop-i-test.false

@@ -3,7 +3,7 @@ use borrow.Author.Tests.{lt-ltb, le-ltb}
 use mathlib.Core.Path.{sym}
 use lib.Seq.{length-take-le}
 use Rattle.tables.specs.Calls.{check_reply}
-use Rattle.tables.proofs.Tests.{answered_no, answered_yes, not_t, not_f}
+use Rattle.tables.proofs.Tests.{answered, not_t, not_f}
 use Rattle.tables.proofs.Passed.{first_hit, first_skip, first_none}
 use Rattle.tables.proofs.checking.check.Goals as goal
 
@@ -21,10 +21,10 @@ pub returns-then-not-table_is_good : goal.returns-then-not-table_is_good
 unfolding check_reply
 returns-then-not-table_is_good c =
     first_skip _ _ _ _ (le-ltb _ _ c.if-table-lt-TABLE_WORDS.false)
-    (first_hit _ _ _ (not_f _ (answered_no _ _ c.table_is_good.ensures c.if-not-table_is_good.true)))
+    (first_hit _ _ _ (not_f _ (answered _ _ c.table_is_good.ensures c.if-not-table_is_good.true)))
 
 pub returns : goal.returns
 unfolding check_reply
 returns c =
     first_skip _ _ _ _ (le-ltb _ _ c.if-table-lt-TABLE_WORDS.false)
-    (first_skip _ _ _ _ (not_t _ (answered_yes _ _ c.table_is_good.ensures c.if-not-table_is_good.false)) first_none)
+    (first_skip _ _ _ _ (not_t _ (answered _ _ c.table_is_good.ensures c.if-not-table_is_good.false)) first_none)

@@ -1,7 +1,7 @@
 use borrow.Author.Rules.{rules}
 use mathlib.Core.Path.{sym, ◌∙◌}
 use native.Mathlib.Omega.{arith}
-use Rattle.tables.proofs.Tests.{answered_no, answered_yes}
+use Rattle.tables.proofs.Tests.{answered}
 use Rattle.tables.proofs.Loops.{row_good, row_stops, window_stops, rows_end, below_none, below_next}
 use Rattle.tables.proofs.checking.rows_are_good.Goals as goal
 
@@ -11,7 +11,7 @@ loop-i-init c = (below_none _, search rules)
 pub loop-i-preserved : goal.loop-i-preserved
 loop-i-preserved c = (
   below_next _ _ c.loop-i.invariant.0
-      (row_good _ _ _ (sym c.row_reply_at.ensures ∙ c.if-row_reply_at-ne-ACCEPTED.false) (answered_yes _ _ c.row_climbs.ensures c.if-not-row_climbs.false)),
+      (row_good _ _ _ (sym c.row_reply_at.ensures ∙ c.if-row_reply_at-ne-ACCEPTED.false) (answered _ _ c.row_climbs.ensures c.if-not-row_climbs.false)),
   search rules,
 )
 
@@ -23,7 +23,7 @@ returns-then-row_reply_at-ne-ACCEPTED c = let count = c.requires.2 in
 pub returns-then-not-row_climbs : goal.returns-then-not-row_climbs
 returns-then-not-row_climbs c = let count = c.requires.2 in
     let taken = c.loop-i-test.true in
-    window_stops _ _ _ (omega arith) (answered_no _ _ c.row_climbs.ensures c.if-not-row_climbs.true)
+    window_stops _ _ _ (omega arith) (answered _ _ c.row_climbs.ensures c.if-not-row_climbs.true)
 
 pub returns : goal.returns
 returns c =

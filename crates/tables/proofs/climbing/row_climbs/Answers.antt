@@ -1,6 +1,6 @@
 -- `row_climbs` meets its contract: by the row at p+1+n, then, where it is no JUMP, the row at p+1. Assumes nothing.
 use mathlib.Core.Path.{◌∙◌}
-use Rattle.tables.proofs.Tests.{answered_no, answered_yes}
+use Rattle.tables.proofs.Tests.{answered}
 use Rattle.tables.proofs.Onward.{one_way, far_back, jump_on, both_on}
 use Rattle.tables.proofs.climbing.row_climbs.Goals as goal
 
@@ -9,13 +9,13 @@ returns-then-n-eq0 c = c.climbs_to.ensures ∙ one_way _ _ _ _ c.row_at-r.ensure
 
 pub returns-then-not-climbs_to : goal.returns-then-not-climbs_to
 returns-then-not-climbs_to c = far_back _ _ _ _ c.row_at-r.ensures c.requires.5 c.if-n-eq0.false
-    (answered_no _ _ c.climbs_to-2.ensures c.if-not-climbs_to.true)
+    (answered _ _ c.climbs_to-2.ensures c.if-not-climbs_to.true)
 
 pub returns : goal.returns
 returns c = c.climbs_to-3.ensures
     ∙ both_on _ _ _ _ c.row_at-r.ensures c.requires.5 c.if-n-eq0.false
-    (answered_yes _ _ c.climbs_to-2.ensures c.if-not-climbs_to.false) c.if-r-eq-JUMP.false
+    (answered _ _ c.climbs_to-2.ensures c.if-not-climbs_to.false) c.if-r-eq-JUMP.false
 
 pub returns-then-r-eq-JUMP : goal.returns-then-r-eq-JUMP
 returns-then-r-eq-JUMP c = jump_on _ _ _ _ c.row_at-r.ensures c.requires.5 c.if-n-eq0.false
-    (answered_yes _ _ c.climbs_to-2.ensures c.if-not-climbs_to.false) c.if-r-eq-JUMP.true
+    (answered _ _ c.climbs_to-2.ensures c.if-not-climbs_to.false) c.if-r-eq-JUMP.true

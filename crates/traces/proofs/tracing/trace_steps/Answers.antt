@@ -52,7 +52,7 @@ loop-at-init c =
     record {
       left = begin _ _ _ _ _ c.requires.1 c.requires.0 c.requires.2 c.put_start.ensures c.load_registers-regs.ensures (search rules);
       lates = c.load_lates-lates.ensures;
-      in_time_lem = zero_above_none _;
+      deadline_in_time = zero_above_none _;
     }
 
 pub overflow_add-at : goal.overflow_add-at
@@ -68,7 +68,7 @@ pub field-t-requires : goal.field-t-requires
 field-t-requires c = field_asks 12 _ _ (digits (goal.at.field-t-requires c).In-loop-at) _ 4 8 refl c.loop-at.invariant.left.within (omega arith) (omega arith)
 
 pub deadline_for-deadline-requires : goal.deadline_for-deadline-requires
-deadline_for-deadline-requires c = (c.loop-at.invariant.lates.size, c.loop-at.invariant.in_time_lem)
+deadline_for-deadline-requires c = (c.loop-at.invariant.lates.size, c.loop-at.invariant.deadline_in_time)
 
 pub choice_reply-reply-requires : goal.choice_reply-reply-requires
 choice_reply-reply-requires c =
@@ -150,7 +150,7 @@ loop-at-preserved c =
           (done.auto.state ∙ g.state_long) (length-set l.regs _ _ ∙ g.regs_wide)
           (whole_after _ _ _ _ _ _ _ made g.state_long g.regs_wide low);
       lates = lates_after _ _ _ _ _ _ _ made g.state_long g.regs_wide low l.lates l.invariant.lates _ c.late_at.ensures;
-      in_time_lem = deadline_after _ _ _ _ _ _ _ made g.state_long g.regs_wide low good (said (goal.at.loop-at-preserved c).After-choice_reply-reply ∙ z) l.lates l.invariant.lates _ c.deadline_for-deadline.ensures.1 _ c.late_at.ensures;
+      deadline_in_time = deadline_after _ _ _ _ _ _ _ made g.state_long g.regs_wide low good (said (goal.at.loop-at-preserved c).After-choice_reply-reply ∙ z) l.lates l.invariant.lates _ c.deadline_for-deadline.ensures.1 _ c.late_at.ensures;
     }
 
 pub finish-requires-2 : goal.finish-requires-2
