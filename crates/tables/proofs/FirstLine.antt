@@ -5,9 +5,8 @@ use mathlib.Core.List.{List, [], ◌∷◌}
 use Prim.Native.Nat.{ℕ, zero, suc, ◌+◌, ◌-◌, ◌≤◌, ◌<◌, zero-le}
 use native.Mathlib.Omega.{arith}
 use lib.Dec.{eqb}
-use lib.ListN.{length, take, drop, get_or, length-drop, drop_of_length-le}
-use lib.Seq.{drop-cons, take_all, length-take-le}
-use borrow.Author.Tests.{eq-eqb, ne_eqb}
+use lib.ListN.{length, take, drop, length-drop}
+use lib.Seq.{take_all, length-take-le}
 use Rattle.tables.specs.Lines.{newline, onto, lines}
 use Rattle.tables.specs.Heads.{line_length, line_from}
 use Rattle.tables.proofs.Newlines.{lines_newline, lines_other}
@@ -91,20 +90,8 @@ module _ (text : List ℕ) (p : ℕ) (h : p < length text) where
   pub first_line_at : lines (drop p text) ≡ line_from text p ∷ lines (drop (line_length (drop p text)) (drop p text))
   first_line_at = first_line (drop p text) some_left
 
--- the length of the line at a place, a byte at a time
+-- the length of the line at a place
 module _ (text : List ℕ) (i : ℕ) where
-  pub line_stop : i < length text → get_or text i 0 ≡ newline → i + 1 ≡ i + line_length (drop i text)
-  line_stop h e = rw (drop-cons text i 0 h, line_newline _ _ (eq-eqb (get_or text i 0) newline e))
-
-  pub line_on : i < length text → (get_or text i 0 ≡ newline → ⊥) → i + 1 + line_length (drop (i + 1) text) ≡ i + line_length (drop i text)
-  line_on h n =
-      let s : i + 1 ≡ suc i = omega arith in
-      rw (drop-cons text i 0 h, line_other _ _ (ne_eqb (get_or text i 0) newline n), s) (omega arith)
-
-  pub line_none : length text ≤ i → i ≡ i + line_length (drop i text)
-  unfolding line_length
-  line_none h = rw (drop_of_length-le text {i = i} h) (omega arith)
-
   pub line_room : i ≤ length text → i + line_length (drop i text) ≤ length text
   line_room h = let w : line_length (drop i text) ≤ length text - i = simp length-drop at (line_within (drop i text)) in omega arith
 

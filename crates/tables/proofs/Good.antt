@@ -7,18 +7,18 @@ use Prim.Native.Nat.{ℕ, ◌+◌, ◌≤◌, ◌<◌}
 use native.Mathlib.Omega.{arith}
 use lib.Dec.{eqb, ltb}
 use lib.ListN.{get_or, length, take}
-use borrow.Author.Tests.{leb-true, le-leb, eqb-true, ltb-true, ltb-false, le-ltb, not-false}
+use borrow.Author.Tests.{leb-true, le-leb, eqb-true, ltb-true, ltb-false, le-ltb, eq-eqb, not-false}
 use Rattle.tables.proofs.Passed.{and_1, and_2, each, every_go, every_none, below, all_below_lem, passed, first_skip, first_none}
-use Rattle.tables.proofs.Tests.{not_t}
+use Rattle.std.proofs.lemmas.Bool.{not_from_true}
+use Rattle.tables.proofs.Tests.{and_both}
 use Rattle.tables.proofs.Zeros.{zero_at, zero_all}
 use Rattle.tables.proofs.RowReplies.{RowFits, row_fits}
-use Rattle.tables.proofs.Loops.{row_passes, row_good}
 use Rattle.tables.proofs.Onward.{climbs_on}
 use Rattle.tables.specs.Basics.{OneOf}
 use Rattle.tables.specs.Layout.{agents, rows, row, row_place, start_place, table_words}
 use Rattle.tables.specs.Rows.{well_formed, goes_on_to}
 use Rattle.tables.specs.Calls.{check_reply}
-use Rattle.tables.specs.Table.{row_reply_at, climbs, good_rows, good_agent, good_table}
+use Rattle.tables.specs.Table.{row_passes, row_reply_at, climbs, good_rows, good_agent, good_table}
 
 -- the words from place i up to place j are 0
 abbrev pub Zero : List ℕ → ℕ → ℕ → Type 0
@@ -50,7 +50,7 @@ Climbing tb = (a i : ℕ) → a < agents tb → i < rows tb a → climbs tb a i 
 module _ (tb : List ℕ) where
   rows_good_lem : (a : ℕ) → ((i : ℕ) → i < rows tb a → row_reply_at tb a i ≡ 0) → ((i : ℕ) → i < rows tb a → climbs tb a i ≡ true) → good_rows tb a ≡ true
   unfolding good_rows
-  rows_good_lem a h k = all_below_lem (rows tb a) (row_passes tb a) (λ i l. row_good tb a i (h i l) (k i l))
+  rows_good_lem a h k = all_below_lem (rows tb a) (row_passes tb a) (λ i l. and_both _ _ (eq-eqb _ 0 (h i l)) (k i l))
 
   agent_good : (a : ℕ) → AgentFacts tb a → ((i : ℕ) → i < rows tb a → climbs tb a i ≡ true) → good_agent tb a ≡ true
   unfolding good_agent
@@ -179,4 +179,4 @@ module _ (tb : List ℕ) where
 
   pub good_checked : table_words ≤ length tb → good_table (take table_words tb) ≡ true → check_reply tb ≡ 0
   unfolding check_reply
-  good_checked h good = sym (first_skip _ _ _ _ (le-ltb _ _ h) (first_skip _ _ _ _ (not_t _ good) first_none))
+  good_checked h good = sym (first_skip _ _ _ _ (le-ltb _ _ h) (first_skip _ _ _ _ (not_from_true _ good) first_none))

@@ -121,9 +121,9 @@ unfolding head_line
 malformed_head l fs = go (frame_of l) refl (tells l)
   where
     go : (f : Frame) → frame_of l ≡ f → Tells l f → head_line (f ∷ fs) ≡ Malformed → Faulted l
-    go (opens b ws) q t e = let y : ◌≡◌ {A = ℕ} 0 1 = cc in absurd (omega arith)
-    go (gives b ws) q t e = let y : ◌≡◌ {A = ℕ} 0 1 = cc in absurd (omega arith)
-    go ends q t e = let y : ◌≡◌ {A = ℕ} 0 1 = cc in absurd (omega arith)
+    go (opens b ws) q t e = cc
+    go (gives b ws) q t e = cc
+    go ends q t e = cc
     go (malformed w) q t e = record { fault = w; judged = t; frame = q }
 
 module _ (text : List ℕ) (p : ℕ) (h : p < length text) where
@@ -218,17 +218,14 @@ module _ (text : List ℕ) (p : ℕ) where
       no_kind k a = pick (eqb k 0) (eqb k 1)
         where
           pick : (z o : Bool) → cond z (Opens a) (cond o (Gives a) Malformed) ≡ Ends → ⊥
-          pick true o q = let z : ◌≡◌ {A = ℕ} 0 1 = cc in omega arith
-          pick false true q = let z : ◌≡◌ {A = ℕ} 0 1 = cc in omega arith
-          pick false false q = let z : ◌≡◌ {A = ℕ} 0 1 = cc in omega arith
+          pick true o q = cc
+          pick false true q = cc
+          pick false false q = cc
 
       go : (b : Bool) → end_at text p ≡ b → (d : Bool) → digits_at 36 text p ≡ d → b ≡ true
       go true q d r = refl
-      go false q false r = let z : ◌≡◌ {A = ℕ} 0 1 = cc (line_neither text p q r) in absurd (omega arith)
+      go false q false r = cc (line_neither text p q r)
       go false q true r = absurd (no_kind (field text p 2) (field text (p + 2) 2) (sym (line_digits text p r) ∙ e))
 
   pub ended : line_at text p ≡ Ends → frames_of (drop p text) ≡ ends ∷ frames_of (drop (p + 3) text)
   ended e = frames_end text p (ends_at e)
-
-  pub ended_room : p ≤ length text → line_at text p ≡ Ends → p + 3 ≤ length text
-  ended_room i e = end_room (ends_at e) i

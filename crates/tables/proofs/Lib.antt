@@ -1,6 +1,7 @@
 pub mod Tests
 pub mod Passed
 pub mod FirstBelow
+pub mod Refusals
 pub mod RowReplies
 pub mod Zeros
 pub mod Stored

@@ -9,11 +9,14 @@ use native.Mathlib.Numerals.{add-one}
 use native.Mathlib.Omega.{arith}
 use lib.Dec.{ltb, leb, eqb, lit<}
 use lib.ListN.{length, take, drop, get_or, length-take, length-drop, drop_of_length-le}
-use lib.Seq.{drop-cons, drop_at, drop-drop, take-suc, take-take, length-take-le, get_or-drop}
-use borrow.Author.Tests.{eqb-true, eq-eqb, ltb-true, lt-ltb, le-ltb, leb-true, ne_eqb}
+use lib.Pointwise.{pointwise}
+use lib.Seq.{drop_at, drop-drop, take-suc, take-take, length-take-le, get_or-drop}
+use borrow.Author.Tests.{eqb-true, eqb-false, eq-eqb, ltb-true, lt-ltb, le-ltb, leb-true, ne_eqb}
+use Rattle.std.specs.List.{fold}
 use Rattle.tables.specs.Lines.{same, newline, hex_digit, all_hex, number, field, digits_line}
 use Rattle.tables.specs.Heads.{digits_at}
-use Rattle.tables.proofs.Tests.{and_left, and_right}
+use Rattle.std.proofs.lemmas.Bool.{and_left}
+use Rattle.tables.proofs.Tests.{and_right}
 use Rattle.tables.proofs.Passed.{and_1, and_2}
 
 -- ---- the same string
@@ -38,10 +41,20 @@ other_length [] (y ∷ b) h = refl
 other_length (x ∷ a) [] h = refl
 other_length (x ∷ a) (y ∷ b) h = and_right (eqb x y) (same a b) (other_length a b (λ e. h (ap suc e)))
 
-pub same_step : (a b : List ℕ) (i : ℕ) → i < length a → i < length b
-    → same (drop i a) (drop i b) ≡ (eqb (get_or a i 0) (get_or b i 0) && same (drop (i + 1) a) (drop (i + 1) b))
+eqb_swap : (x y : ℕ) → eqb x y ≡ eqb y x
+eqb_swap x y = go (eqb y x) refl
+  where
+    go : (b : Bool) → eqb y x ≡ b → eqb x y ≡ b
+    go true e = eq-eqb x y (sym (eqb-true y x e))
+    go false e = ne_eqb x y (λ f. eqb-false y x e (sym f))
+
+-- it is what std's slices are compared by
+pub same_slices : (a b : List ℕ) → same a b ≡ pointwise eqb b a
 unfolding same
-same_step a b i h k = rw (add-one i, drop-cons a i 0 h, drop-cons b i 0 k)
+same_slices [] [] = refl
+same_slices [] (y ∷ b) = refl
+same_slices (x ∷ a) [] = refl
+same_slices (x ∷ a) (y ∷ b) = rw (eqb_swap x y, same_slices a b)
 
 -- ---- digits, and the number that they stand for
 
@@ -91,25 +104,14 @@ hex_more (x ∷ l) (suc n) h =
     ap (λ (b : Bool). ltb (hex_digit x) 16 && b) (hex_more l n (omega arith))
     ∙ sym (and_assoc (ltb (hex_digit x) 16) (all_hex (take n l)) (ltb (hex_digit (get_or l n 0)) 16))
 
--- one digit more
-pub hex_go : (l : List ℕ) (n : ℕ) → n < length l → all_hex (take n l) ≡ true → hex_digit (get_or l n 0) < 16 → all_hex (take (n + 1) l) ≡ true
-hex_go l n h e d = rw (add-one n, hex_more l n h, e, lt-ltb _ _ d)
+-- whether all are digits, as a fold over them
+folded : (a : Bool) (l : List ℕ) → fold (λ all b. all && ltb (hex_digit b) 16) a l ≡ (a && all_hex l)
+unfolding all_hex
+folded a [] = sym (and-true a)
+folded a (x ∷ l) = folded (a && ltb (hex_digit x) 16) l ∙ and_assoc a (ltb (hex_digit x) 16) (all_hex l)
 
-pub odd_room : (o c : ℕ) → o ≡ cond (ltb (hex_digit c) 16) 0 1 → o ≤ 1
-odd_room o c = go (ltb (hex_digit c) 16)
-  where
-    go : (t : Bool) → o ≡ cond t 0 1 → o ≤ 1
-    go true e = omega arith
-    go false e = omega arith
-
--- the bytes that are no digit, counted: one byte more
-pub odds_more : (l : List ℕ) (n g o : ℕ) → n < length l → eqb g 0 ≡ all_hex (take n l) → o ≡ cond (ltb (hex_digit (get_or l n 0)) 16) 0 1
-    → eqb (g + o) 0 ≡ all_hex (take (n + 1) l)
-odds_more l n g o h e q = rw (add-one n, hex_more l n h, ← e, q) (go (ltb (hex_digit (get_or l n 0)) 16))
-  where
-    go : (t : Bool) → eqb (g + cond t 0 1) 0 ≡ (eqb g 0 && t)
-    go true = let e : g + 0 ≡ g = omega arith in ap (λ (m : ℕ). eqb m 0) e ∙ sym (and-true (eqb g 0))
-    go false = let n : g + 1 ≡ 0 → ⊥ = λ z. omega arith in ne_eqb (g + 1) 0 n ∙ sym (and_right (eqb g 0) false refl)
+pub folded_hex : (l : List ℕ) → fold (λ all b. all && ltb (hex_digit b) 16) true l ≡ all_hex l
+folded_hex l = folded true l
 
 -- what some digits say of each of them
 pub hex_at : (l : List ℕ) (n i : ℕ) → all_hex (take n l) ≡ true → i < n → i < length l → hex_digit (get_or l i 0) < 16

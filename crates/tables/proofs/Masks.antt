@@ -5,7 +5,7 @@ use Prim.Native.Nat.{ℕ, ◌+◌, ◌*◌, ◌/◌, ◌%◌, ◌≤◌, ◌<◌
 use native.Mathlib.Omega.{arith}
 use lib.Dec.{eqb}
 use lib.Bits.{bit_and, and_mask, and_high, and_zero_r}
-use borrow.Author.Tests.{leb-true, le-leb, eqb-true, eqb-false, eq-eqb}
+use borrow.Author.Tests.{leb-true, le-leb, eqb-true, eqb-false, eq-eqb, ne_eqb}
 use Rattle.tables.proofs.Passed.{each, every_go, every_last}
 use Rattle.tables.proofs.Blocks.{block_and}
 use Rattle.tables.specs.Layout.{row_of}
@@ -85,9 +85,9 @@ module _ (code k early late : ℕ) (x y n : Bool) where
         (every_go _ _ _ ((spares_31 (code % 256) (omega arith) n).fits (omega arith))
         (every_last _)))
 
-    pub some_spare : (bit_and code (spare_of x y n) ≡ 0 → ⊥) → false ≡ fields_fit (row_of code k early late) x y n free
+    some_bit : (bit_and code (spare_of x y n) ≡ 0 → ⊥) → false ≡ fields_fit (row_of code k early late) x y n free
     unfolding fields_fit row_of
-    some_spare e = go (fields_fit (row_of code k early late) x y n free) refl
+    some_bit e = go (fields_fit (row_of code k early late) x y n free) refl
       where
         go : (b : Bool) → fields_fit (row_of code k early late) x y n free ≡ b → false ≡ b
         go true h =
@@ -98,10 +98,14 @@ module _ (code k early late : ℕ) (x y n : Bool) where
             absurd (e (omega arith))
         go false h = refl
 
+    -- a bit stands where it must not: k is not looked at
+    pub some_spare : (bit_and code (spare_of x y n) ≡ 0 → ⊥) → eqb (bit_and code (spare_of x y n)) 0 ≡ fields_fit (row_of code k early late) x y n free
+    some_spare e = ne_eqb _ 0 e ∙ some_bit e
+
   -- a row whose k is free
   pub by_bits : eqb (bit_and code (spare_of x y n)) 0 ≡ fields_fit (row_of code k early late) x y n true
   by_bits = go (eqb (bit_and code (spare_of x y n)) 0) refl
     where
       go : (b : Bool) → eqb (bit_and code (spare_of x y n)) 0 ≡ b → b ≡ fields_fit (row_of code k early late) x y n true
       go true h = none_spare true (eqb-true _ 0 h)
-      go false h = some_spare true (eqb-false _ 0 h)
+      go false h = some_bit true (eqb-false _ 0 h)

@@ -7,7 +7,7 @@ use Prim.Native.Nat.{ℕ, ◌+◌, ◌≤◌, ◌<◌}
 use native.Mathlib.Omega.{arith}
 use lib.Dec.{leb, eqb}
 use borrow.Author.Tests.{leb-true, leb-false, le-leb, lt-leb, eqb-true, eqb-false}
-use Rattle.tables.proofs.Tests.{or_left, and_left, and_both}
+use Rattle.tables.proofs.Tests.{or_left, and_both}
 use Rattle.tables.proofs.Passed.{and_1, and_2, every_go, every_stop, every_last}
 use Rattle.tables.proofs.Families.{Plain, n_unnamed}
 use Rattle.tables.proofs.RowReplies.{passed_formed}
@@ -81,10 +81,6 @@ module _ (tb : List ℕ) (a i : ℕ) where
     to_row : not_above (row tb a i) (row tb a j) ≡ climbs_to tb a i j
     unfolding climbs_to
     to_row = rw (lt-leb (rows tb a) j l)
-
-    pub early_back : (row tb a j).early < (row tb a i).early → false ≡ climbs_to tb a i j
-    unfolding not_above
-    early_back h = sym (and_left _ _ (lt-leb (row tb a i).early (row tb a j).early h)) ∙ to_row
 
     pub by_late : (row tb a i).early ≤ (row tb a j).early → leb (row tb a i).late (row tb a j).late ≡ climbs_to tb a i j
     unfolding not_above

@@ -10,7 +10,8 @@ use native.Mathlib.Numerals.{add-one}
 use lib.Dec.{T, eqb, ltb, ltb→lt}
 use lib.ListN.{get_or}
 use borrow.Author.Tests.{eqb-true, eqb-false, lt-ltb, le-ltb, le-leb, lt-leb, eq-eqb, ne_eqb}
-use Rattle.tables.proofs.Tests.{and_both, and_yes, not_t, not_f}
+use Rattle.std.proofs.lemmas.Bool.{not_from_true, not_from_false}
+use Rattle.tables.proofs.Tests.{and_both, and_yes}
 use Rattle.tables.specs.Basics.{every, all_below, first, ◌⇒◌, Rule}
 
 pub and_1 : (a b : Bool) → (a && b) ≡ true → a ≡ true
@@ -45,11 +46,6 @@ every_stop b bs h = rw h
 pub every_go : (b q : Bool) (bs : List Bool) → b ≡ true → q ≡ every bs → q ≡ every (b ∷ bs)
 unfolding every
 every_go b q bs h e = rw h e
-
-pub every_of : (bs : List Bool) → ((k : ℕ) → get_or bs k true ≡ true) → every bs ≡ true
-unfolding every
-every_of [] h = refl
-every_of (b ∷ bs) h = and_both b (every bs) (h 0) (every_of bs (λ k. h (suc k)))
 
 -- ---- every number below n
 
@@ -122,7 +118,7 @@ unfolding first
 first_none = refl
 
 -- what a reply by the first refusal is shown from: the facts of the branches on the way
-pub ruleset refusals = (first_none, first_hit, first_skip, not_t, not_f, lt-ltb, le-ltb, le-leb, lt-leb, eq-eqb, ne_eqb)
+pub ruleset refusals = (first_none, first_hit, first_skip, not_from_true, not_from_false, lt-ltb, le-ltb, le-leb, lt-leb, eq-eqb, ne_eqb)
 
 -- the tests of rules, and that no rule has the number 0
 abbrev pub test_at : List Rule → ℕ → Bool

@@ -50,10 +50,10 @@ module _ (text : List ℕ) (p : ℕ) where
       where
         go : (fs : List Frame) → head_line fs ≡ Malformed → sound fs ≡ true → (fs ≡ [] → ⊥) → ⊥
         go [] e s k = k refl
-        go (opens b ws ∷ fs) e s k = let z : ◌≡◌ {A = ℕ} 0 1 = cc in omega arith
-        go (gives b ws ∷ fs) e s k = let z : ◌≡◌ {A = ℕ} 0 1 = cc in omega arith
-        go (ends ∷ fs) e s k = let z : ◌≡◌ {A = ℕ} 0 1 = cc in omega arith
-        go (malformed w ∷ fs) e s k = let z : ◌≡◌ {A = ℕ} 0 1 = cc in omega arith
+        go (opens b ws ∷ fs) e s k = cc
+        go (gives b ws ∷ fs) e s k = cc
+        go (ends ∷ fs) e s k = cc
+        go (malformed w ∷ fs) e s k = cc
 
     begins : (ln : Line) → line_at text p ≡ ln → Begins text p ln
     unfolding end_at

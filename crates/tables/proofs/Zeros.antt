@@ -1,14 +1,14 @@
--- Words that are 0 from one place to another: one place more, and what it says of each place; and a list of zeros. Assumes nothing.
+-- Words that are 0 from one place to another: as a chain tests them, and what it says of each place; and a list of zeros. Assumes nothing.
 use mathlib.Core.Path.{◌≡◌, refl, sym, ap, ◌∙◌}
-use mathlib.Core.Bool.{Bool, true, false, ◌&&◌, and-true, and_assoc}
+use mathlib.Core.Bool.{Bool, true, ◌&&◌, and-true, and_assoc}
 use mathlib.Core.List.{List, [], ◌∷◌}
 use Prim.Native.Nat.{ℕ, zero, suc, ◌+◌, ◌-◌, ◌≤◌, ◌<◌}
 use native.Mathlib.Omega.{arith}
 use lib.Dec.{eqb}
 use lib.ListN.{take, drop, get_or, replicate}
 use lib.Seq.{get_or-drop}
-use borrow.Author.Tests.{ne_eqb, eq-eqb, eqb-true}
-use Rattle.tables.proofs.Tests.{and_right, and_yes}
+use borrow.Author.Tests.{eq-eqb, eqb-true}
+use Rattle.std.specs.List.{fold}
 use Rattle.tables.proofs.Passed.{below, all_below_lem}
 use Rattle.tables.specs.Basics.{all_zero, all_below, zero_from}
 
@@ -19,25 +19,11 @@ more [] (suc n) = refl
 more (x ∷ l) zero = and-true (eqb x 0)
 more (x ∷ l) (suc n) = ap (λ (b : Bool). eqb x 0 && b) (more l n) ∙ sym (and_assoc (eqb x 0) (all_zero (take n l)) (eqb (get_or l n 0) 0))
 
-pub zero_none : (ws : List ℕ) (i : ℕ) → zero_from ws i i ≡ true
-unfolding zero_from all_zero
-zero_none ws i = let e : i - i ≡ 0 = omega arith in ap (λ (n : ℕ). all_zero (take n (drop i ws))) e
-
-pub zero_more : (ws : List ℕ) (i k : ℕ) → i ≤ k → zero_from ws i (k + 1) ≡ (zero_from ws i k && eqb (get_or ws k 0) 0)
-unfolding zero_from
-zero_more ws i k h =
-    let e : k + 1 - i ≡ suc (k - i) = omega arith in
-    let f : i + (k - i) ≡ k = omega arith in
-    ap (λ (n : ℕ). all_zero (take n (drop i ws))) e
-    ∙ more (drop i ws) (k - i)
-    ∙ ap (λ (v : ℕ). all_zero (take (k - i) (drop i ws)) && eqb v 0) (get_or-drop i ws (k - i) 0 ∙ ap (λ (n : ℕ). get_or ws n 0) f)
-
--- the same, by what the word at k is
-pub zero_stop : (ws : List ℕ) (i k : ℕ) → i ≤ k → (get_or ws k 0 ≡ 0 → ⊥) → zero_from ws i (k + 1) ≡ false
-zero_stop ws i k h n = zero_more ws i k h ∙ and_right (zero_from ws i k) _ (ne_eqb (get_or ws k 0) 0 n)
-
-pub zero_go : (ws : List ℕ) (i k : ℕ) → i ≤ k → get_or ws k 0 ≡ 0 → zero_from ws i (k + 1) ≡ zero_from ws i k
-zero_go ws i k h e = zero_more ws i k h ∙ and_yes (zero_from ws i k) _ (eq-eqb (get_or ws k 0) 0 e)
+-- a test of each word in turn, as a chain makes it
+pub zero_folded : (b : Bool) (l : List ℕ) → fold (λ good w. good && eqb w 0) b l ≡ (b && all_zero l)
+unfolding all_zero
+zero_folded b [] = sym (and-true b)
+zero_folded b (x ∷ l) = zero_folded (b && eqb x 0) l ∙ and_assoc b (eqb x 0) (all_zero l)
 
 -- ---- what it says of each place, and back
 

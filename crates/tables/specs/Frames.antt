@@ -1,9 +1,8 @@
 -- Frames: what one line of a table's text says. Assumes nothing.
-use Rattle.std.specs.Prelude.{cond, List, [], ◌∷◌, map, ℕ, eqb}
+use Rattle.std.specs.Prelude.{Ok, Err, cond, List, [], ◌∷◌, map, ℕ, eqb}
 use Rattle.tables.specs.Lines.{lines, same, end_line, field}
 use Rattle.tables.specs.Faults.{judge}
 use Rattle.tables.specs.declared.faults.Fault.{Fault}
-use Rattle.tables.specs.declared.faults.Judged.TheVariants.{Sound, Faulty}
 
 -- an agent's number with its four registers; an agent's number with the four words of a row; the end; a line with a fault
 pub data Frame : Type 0 where
@@ -25,8 +24,8 @@ unfoldable pub frame_of : List ℕ → Frame
 frame_of l =
     cond (same l end_line) ends
     (elim (judge known_in_tables l) [
-      | Sound ↦ cond (eqb (field l 0 2) 0x00) (opens (field l 2 2) (four_words l)) (gives (field l 2 2) (four_words l))
-      | Faulty w ↦ malformed w
+      | Ok _ ↦ cond (eqb (field l 0 2) 0x00) (opens (field l 2 2) (four_words l)) (gives (field l 2 2) (four_words l))
+      | Err w ↦ malformed w
     ])
 
 -- the frames of a text, one to a line

@@ -1,6 +1,7 @@
 -- The 2,129 words of a table: where each thing stands. Assumes nothing.
 use Rattle.std.specs.Prelude.{ℕ, ◌+◌, ◌*◌, ◌/◌, ◌%◌, ◌^◌, List, get_or}
 use Rattle.tables.specs.declared.Row.{Row}
+use Rattle.tables.specs.declared.RowWords.{RowWords}
 
 abbrev pub table_words : ℕ
 table_words = 2129
@@ -36,6 +37,10 @@ row_of code k e l = record {
   early = e;
   late = l;
 }
+
+-- a row from its words
+abbrev pub row_from : RowWords → Row
+row_from w = row_of w.code w.k w.early w.late
 
 -- row i of agent a, taken apart
 abbrev pub row : List ℕ → ℕ → ℕ → Row

@@ -1,5 +1,6 @@
 -- What a reader of this crate must believe, lowest first.
 pub mod Basics
+pub mod Replies
 pub mod Small
 pub mod Layout
 pub mod Family

@@ -15,9 +15,13 @@ climbs_to tb a i j = leb (rows tb a) j || not_above (row tb a i) (row tb a j)
 unfoldable pub climbs : List ℕ → (a i : ℕ) → Bool
 climbs tb a i = every (map (climbs_to tb a i) (goes_on_to (row tb a i) i))
 
--- each row of an agent is within the rules, 4 to 7
+-- row i of agent a is within the rules, 4 to 7
+abbrev pub row_passes : List ℕ → (a i : ℕ) → Bool
+row_passes tb a i = eqb (row_reply_at tb a i) 0 && climbs tb a i
+
+-- each row of an agent is
 unfoldable pub good_rows : List ℕ → ℕ → Bool
-good_rows tb a = all_below (rows tb a) (λ i. eqb (row_reply_at tb a i) 0 && climbs tb a i)
+good_rows tb a = all_below (rows tb a) (row_passes tb a)
 
 -- an agent: 1 to 32 rows, each within the rules, and 0 in the places past them
 unfoldable pub good_agent : List ℕ → ℕ → Bool

@@ -6,6 +6,7 @@ ghost use Rattle.tables.specs.Table.{row_reply_at, climbs_to, climbs};
 use crate::rows::{JUMP, row_at};
 
 // Whether the window of row i of agent a is not above that of its row j. Row c is the end, which has no window.
+#[tactic(auto, using(std::proofs::lemmas::Bool::Decides::nat_tests), unfolding(crate::specs::Table::climbs_to, crate::specs::Rows::not_above))]
 fn climbs_to(table: &[u32], a: usize, i: usize, j: usize, c: usize) -> bool
     requires { (table_words ≤ length table.now) × (a < 16) × (c ≡ rows table.now a) × (c ≤ 32) × (i < 32) }
     ensures { result ≡ climbs_to table.now a i j }
@@ -15,10 +16,7 @@ fn climbs_to(table: &[u32], a: usize, i: usize, j: usize, c: usize) -> bool
     }
     let r = row_at(table, a, i);
     let next = row_at(table, a, j);
-    if next.early < r.early {
-        return false;
-    }
-    r.late <= next.late
+    r.early <= next.early && r.late <= next.late
 }
 
 // Whether row i of agent a, one of its c rows, which has passed 4 to 6, goes on to no earlier window. A row that is no SKIP, JUMP or RECV has n 0.
@@ -31,11 +29,5 @@ pub fn row_climbs(table: &[u32], a: usize, i: usize, c: usize) -> bool
     if n == 0 {
         return climbs_to(table, a, i, i + 1, c);
     }
-    if !climbs_to(table, a, i, i + 1 + n, c) {
-        return false;
-    }
-    if r.op == JUMP {
-        return true;
-    }
-    climbs_to(table, a, i, i + 1, c)
+    climbs_to(table, a, i, i + 1 + n, c) && (r.op == JUMP || climbs_to(table, a, i, i + 1, c))
 }

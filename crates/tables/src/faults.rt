@@ -1,84 +1,71 @@
 // What is wrong with a line, if anything: one answer for the lines of a table and for choice lines.
-ghost use Rattle.std.specs.Prelude.{◌≡◌, true, ◌+◌, ◌≤◌, ◌<◌, length, take, drop};
-ghost use Rattle.tables.specs.Lines.{all_hex};
-ghost use Rattle.tables.specs.Faults.{fault_reply, judged_reply, judge_kind, judge};
+ghost use Rattle.std.specs.Prelude.{◌≡◌, true, ◌+◌, ◌≤◌, ◌<◌, ltb, length, take, drop, position};
+ghost use Rattle.tables.specs.Replies.{number_of};
+ghost use Rattle.tables.specs.Lines.{all_hex, hex_digit};
+ghost use Rattle.tables.specs.Faults.{fault_reply, judge_kind, judge};
 ghost use Rattle.tables.specs.Heads.{line_from};
 
 use crate::hex::{digit, field};
-use crate::replies::{ACCEPTED, BAD_CHARACTER, BAD_LENGTH, UNKNOWN_FIRST_BYTE};
+use crate::replies::Refusal;
 
 // What can be wrong with a line: its characters, then its length, then its kind.
-#[derive(Clone, Copy)]
+#[derive(Clone, Copy, PartialEq, Eq)]
 pub enum Fault {
     Character,
     Length,
     FirstByte,
 }
 
-// A line has no fault, or this one first.
-#[derive(Clone, Copy)]
-pub enum Judged {
-    Sound,
-    Faulty(Fault),
-}
+impl From<Fault> for Refusal {
+    ghost from_gives = { λ w r. number_of r ≡ fault_reply w };
 
-// The reply that tells of a fault.
-pub fn fault_reply(fault: Fault) -> u32
-    ensures { result ≡ fault_reply fault }
-{
-    match fault {
-        Fault::Character => BAD_CHARACTER,
-        Fault::Length => BAD_LENGTH,
-        Fault::FirstByte => UNKNOWN_FIRST_BYTE,
+    #[tactic(auto, unfolding(crate::specs::Replies::number_of, crate::specs::Faults::fault_reply))]
+    fn from(fault: Fault) -> Refusal {
+        match fault {
+            Fault::Character => Refusal::BadCharacter,
+            Fault::Length => Refusal::BadLength,
+            Fault::FirstByte => Refusal::UnknownFirstByte,
+        }
     }
 }
 
-// The reply to a line that was judged.
-pub fn judged_reply(judged: Judged) -> u32
-    ensures { result ≡ judged_reply judged }
-{
-    match judged {
-        Judged::Sound => ACCEPTED,
-        Judged::Faulty(fault) => fault_reply(fault),
-    }
-}
-
-// The line of so many digits at this place, judged by the first bytes that are known, each followed by the digits of its line.
-fn judge_kind(text: &[u8], at: usize, digits: usize, known: &[usize]) -> Judged
-    requires { (at + digits < length text.now) × (all_hex (take digits (drop at text.now)) ≡ true) }
-    ensures { result ≡ judge_kind known.now (take (digits + 1) (drop at text.now)) }
+// A line that begins with so many digits, judged by the first bytes that are known, each followed by the digits of its line.
+fn judge_kind(line: &[u8], digits: usize, known: &[usize]) -> Result<(), Fault>
+    requires { (digits < length line.now) × (all_hex (take digits line.now) ≡ true) }
+    ensures { result ≡ judge_kind known.now (take (digits + 1) line.now) }
 {
     if digits < 2 {
-        return Judged::Faulty(Fault::FirstByte);
+        return Err(Fault::FirstByte);
     }
-    let first = field(text, at, 2) as usize;
-    let mut i = 0;
-    while i + 1 < known.len() {
-        if known[i] == first {
-            if known[i + 1] == digits {
-                return Judged::Sound;
-            }
-            return Judged::Faulty(Fault::Length);
+    let first = field(line, 0, 2) as usize;
+    let (kinds, _) = known.as_chunks::<2>();
+    for kind in kinds {
+        if kind[0] == first {
+            return if kind[1] == digits {
+                Ok(())
+            } else {
+                Err(Fault::Length)
+            };
         }
-        i += 2;
     }
-    Judged::Faulty(Fault::FirstByte)
+    Err(Fault::FirstByte)
 }
 
-// The line that begins at this place, judged. It is passed to the first byte that is no digit, which is to be its newline.
-pub fn judge_line(text: &[u8], at: usize, known: &[usize]) -> Judged
+// How many digits the line begins with, where another byte follows them.
+fn digits_first(line: &[u8]) -> Option<usize>
+    ensures { result ≡ position (λ b. ltb 15 (hex_digit b)) line.now }
+{
+    line.iter().position(|b| 15 < digit(*b))
+}
+
+// The line that begins at this place, judged. The first byte that is no digit is to be its newline.
+pub fn judge_line(text: &[u8], at: usize, known: &[usize]) -> Result<(), Fault>
     requires { at ≤ length text.now }
     ensures { result ≡ judge known.now (line_from text.now at) }
 {
-    let mut p = at;
-    while p < text.len() {
-        if 15 < digit(text[p]) {
-            if text[p] != b'\n' {
-                return Judged::Faulty(Fault::Character);
-            }
-            return judge_kind(text, at, p - at, known);
-        }
-        p += 1;
+    let line = &text[at..];
+    match digits_first(line) {
+        Some(digits) if line[digits] == b'\n' => judge_kind(line, digits, known),
+        _ => Err(Fault::Character),
     }
-    Judged::Faulty(Fault::Character)
 }

@@ -1,12 +1,15 @@
-// What stands at a place of a table's text. Its lines have fixed widths, so no newline is searched for until one is refused.
-ghost use Rattle.std.specs.Prelude.{◌≡◌, true, cond, ◌+◌, ◌≤◌, ◌<◌, ltb, length, drop};
+// What stands at a place of a table's text. Its lines have fixed widths, so no newline is searched for until one is refused. A text and a place go together through these functions,
+// as in the definitions that they answer (`end_at`, `line_at`, `words_at`).
+ghost use Rattle.std.specs.Prelude.{◌≡◌, true, ◌≤◌, ◌<◌, length, drop};
 ghost use Rattle.tables.specs.Lines as Lines;
+ghost use Rattle.tables.specs.Replies.{reply};
 ghost use Rattle.tables.specs.Faults.{judged_reply, judge};
 ghost use Rattle.tables.specs.Frames.{known_in_tables, frames_of};
 ghost use Rattle.tables.specs.Heads.{end_at, digits_at, line_from, line_at, sound};
 
-use crate::faults::{judge_line, judged_reply};
+use crate::faults::judge_line;
 use crate::hex::{digit, field};
+use crate::replies::Refusal;
 
 // The digits of a line that opens an agent or gives a row, and its bytes, with the newline.
 pub const FRAME_DIGITS: usize = 36;
@@ -32,7 +35,7 @@ pub const END_LINE: [u8; END_BYTES] = *b"FF\n";
 pub const OPENS: u32 = 0x00;
 
 pub const GIVES: u32 = 0x01;
-// The first bytes of a table's lines, each followed by the digits of its line.
+// The first bytes of a table's lines, each followed by the digits of its line: a flat list, as `judge_line` takes and `known_in_tables` is.
 const KNOWN_IN_TABLES: [usize; 6] = [
     OPENS as usize,
     FRAME_DIGITS,
@@ -42,8 +45,8 @@ const KNOWN_IN_TABLES: [usize; 6] = [
     END_DIGITS,
 ];
 
-// A line of a table's text: its kind, with the agent's number.
-#[derive(Clone, Copy)]
+// A line of a table's text: its kind, with the agent's number. Malformed is one of them, and no Err, as in the definition `line_at`.
+#[derive(Clone, Copy, PartialEq, Eq)]
 pub enum Line {
     Opens(u32),
     Gives(u32),
@@ -51,62 +54,30 @@ pub enum Line {
     Malformed,
 }
 
-// Whether two strings of bytes are the same.
-fn same(a: &[u8], b: &[u8]) -> bool
-    ensures { result ≡ Lines.same a.now b.now }
-{
-    if a.len() != b.len() {
-        return false;
-    }
-    let mut i = 0;
-    while i < a.len() {
-        if a[i] != b[i] {
-            return false;
-        }
-        i += 1;
-    }
-    true
-}
-
 // Whether the end line stands at this place.
 pub fn is_end(text: &[u8], at: usize) -> bool
     requires { at ≤ length text.now }
     ensures { result ≡ end_at text.now at }
 {
-    if text.len() - at < END_BYTES {
-        return same(&text[at..], &END_LINE);
-    }
-    same(&text[at..at + END_BYTES], &END_LINE)
+    text[at..].starts_with(&END_LINE)
 }
 
-// 1 for a byte that is no digit, else 0.
-fn odd(b: u8) -> u8
-    ensures { result ≡ cond (ltb (Lines.hex_digit b) 16) 0 1 }
+// Whether all bytes are digits. Each is looked at, which runs in vector registers.
+fn are_digits(bytes: &[u8]) -> bool
+    ensures { result ≡ Lines.all_hex bytes.now }
 {
-    if digit(b) < 16 {
-        return 0;
-    }
-    1
+    bytes.iter().fold(true, |all, b| all & (digit(*b) < 16))
 }
 
-// Whether 36 digits and a newline stand at this place. The bytes that are no digit are counted, which runs in vector registers.
+// Whether 36 digits and a newline stand at this place.
 fn is_frame(text: &[u8], at: usize) -> bool
     requires { at ≤ length text.now }
     ensures { result ≡ digits_at 36 text.now at }
 {
-    if text.len() - at <= FRAME_DIGITS {
+    if text.len() - at < FRAME_BYTES {
         return false;
     }
-    let mut odds = 0;
-    let mut j = 0;
-    while j < FRAME_DIGITS {
-        odds = odds + odd(text[at + j]);
-        j += 1;
-    }
-    if odds != 0 {
-        return false;
-    }
-    text[at + FRAME_DIGITS] == b'\n'
+    are_digits(&text[at..at + FRAME_DIGITS]) && text[at + FRAME_DIGITS] == b'\n'
 }
 
 // The line that begins at this place.
@@ -120,22 +91,21 @@ pub fn line_at(text: &[u8], at: usize) -> Line
     if !is_frame(text, at) {
         return Line::Malformed;
     }
-    let kind = field(text, at, 2);
-    if kind == OPENS {
-        return Line::Opens(field(text, at + AGENT_AT, 2));
+    let agent = field(text, at + AGENT_AT, 2);
+    match field(text, at, 2) {
+        OPENS => Line::Opens(agent),
+        GIVES => Line::Gives(agent),
+        _ => Line::Malformed,
     }
-    if kind == GIVES {
-        return Line::Gives(field(text, at + AGENT_AT, 2));
-    }
-    Line::Malformed
 }
 
 // The reply to the line that begins at this place, by all its characters, its length and its first byte.
-pub fn line_reply(text: &[u8], at: usize) -> u32
+#[tactic(auto, unfolding(crate::specs::Replies::reply, crate::specs::Faults::judged_reply))]
+pub fn line_reply(text: &[u8], at: usize) -> Result<(), Refusal>
     requires { at ≤ length text.now }
-    ensures { result ≡ judged_reply (judge known_in_tables (line_from text.now at)) }
+    ensures { reply result ≡ judged_reply (judge known_in_tables (line_from text.now at)) }
 {
-    judged_reply(judge_line(text, at, &KNOWN_IN_TABLES))
+    Ok(judge_line(text, at, &KNOWN_IN_TABLES)?)
 }
 
 // The line that begins at this place, where no line from here to the end is malformed: two of its bytes tell.
@@ -146,8 +116,10 @@ pub fn sound_line(text: &[u8], at: usize) -> Line
     if text[at] == b'F' {
         return Line::Ends;
     }
+    let agent = field(text, at + AGENT_AT, 2);
     if text[at + 1] == b'0' {
-        return Line::Opens(field(text, at + AGENT_AT, 2));
+        Line::Opens(agent)
+    } else {
+        Line::Gives(agent)
     }
-    Line::Gives(field(text, at + AGENT_AT, 2))
 }

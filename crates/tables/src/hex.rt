@@ -1,26 +1,28 @@
 // Hexadecimal digits of a text, and the numbers that they stand for.
 ghost use Rattle.std.specs.Prelude.{◌≡◌, true, ◌+◌, ◌≤◌, ◌<◌, length, take, drop};
 ghost use Rattle.tables.specs.Lines as Lines;
-ghost use Rattle.tables.specs.Heads.{digits_at, two_bytes, eight_bytes};
+ghost use Rattle.tables.specs.Heads.{digits_at, eight_bytes};
 
-// The number that an upper-case hexadecimal digit stands for, 16 for any other byte.
+// The number that an upper-case hexadecimal digit stands for, 16 for any other byte. An Option would be no plainer: the definition hex_digit gives 16,
+// and `are_digits` runs in vector registers by it: the 10 is added to the byte, as after the conversion a line costs it twice the instructions.
 #[tactic(auto, using(crate::proofs::Tests::firsts), unfolding(crate::specs::Lines::hex_digit))]
 pub fn digit(b: u8) -> u32
     ensures { result ≡ Lines.hex_digit b }
 {
     match b {
-        b'0'..=b'9' => (b - 48) as u32,
-        b'A'..=b'F' => (b - 55) as u32,
+        b'0'..=b'9' => u32::from(b - b'0'),
+        b'A'..=b'F' => u32::from(b - b'A' + 10),
         _ => 16,
     }
 }
 
 // The number that a digit stands for, without a branch.
+#[tactic(auto, using(crate::proofs::Lines::hex_value))]
 fn value(b: u8) -> u32
     requires { Lines.hex_digit b < 16 }
     ensures { result ≡ Lines.hex_digit b }
 {
-    let c = b as u32;
+    let c = u32::from(b);
     c % 16 + 9 * (c / 64)
 }
 
@@ -30,26 +32,10 @@ pub fn field(text: &[u8], at: usize, k: usize) -> u32
     ensures { result ≡ Lines.field text.now at k }
 {
     let mut v = 0;
-    let mut j = 0;
-    while j < k {
-        v = 16 * v + value(text[at + j]);
-        j += 1;
+    for b in &text[at..at + k] {
+        v = 16 * v + value(*b);
     }
     v
-}
-
-fn wide(b: u8) -> u64
-    ensures { (result ≡ b) × (result < 256) }
-{
-    b as u64
-}
-
-// Two bytes as a number, the first the higher.
-fn two(text: &[u8], p: usize) -> u64
-    requires { p + 2 ≤ length text.now }
-    ensures { (result ≡ two_bytes text.now p) × (result < 65536) }
-{
-    256 * wide(text[p]) + wide(text[p + 1])
 }
 
 // Eight bytes as a number, the first the highest.
@@ -57,9 +43,16 @@ fn eight(text: &[u8], p: usize) -> u64
     requires { p + 8 ≤ length text.now }
     ensures { result ≡ eight_bytes text.now p }
 {
-    let high = 65536 * two(text, p) + two(text, p + 2);
-    let low = 65536 * two(text, p + 4) + two(text, p + 6);
-    4294967296 * high + low
+    u64::from_be_bytes([
+        text[p],
+        text[p + 1],
+        text[p + 2],
+        text[p + 3],
+        text[p + 4],
+        text[p + 5],
+        text[p + 6],
+        text[p + 7],
+    ])
 }
 
 // The word in the eight digits from digit i of the line at this place. All eight are decoded at once: each byte to its digit, then the digits are

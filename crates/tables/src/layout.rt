@@ -1,4 +1,5 @@
-// The words of a table: how many there are, and where each thing stands in them.
+// The words of a table: how many there are, and where each thing stands in them. Every function is lent the words as a slice, and not a type that says how many they are or that
+// they are good: docs/STATEMENTS.md names these functions, and a narrower argument would ask more of their callers. So it is with the words of a state.
 ghost use Rattle.std.specs.Prelude.{◌≡◌, ◌≤◌, ◌<◌, length};
 ghost use Rattle.tables.specs.Layout.{table_words, agents, rows, count_place, start_place, row_place};
 

@@ -12,6 +12,15 @@ pub mod hex; // hex.rt: hexadecimal digits, and the numbers that they stand for
 pub mod faults; // faults.rt: what is wrong with a line
 pub mod frames; // frames.rt: the lines of a table's text
 
+// A row's four words, as they stand in a table and in a line of its text.
+#[derive(Clone, Copy)]
+pub struct RowWords {
+    pub code: u32,
+    pub k: u32,
+    pub early: u32,
+    pub late: u32,
+}
+
 // A row, taken apart.
 #[derive(Clone, Copy)]
 pub struct Row {
@@ -24,7 +33,7 @@ pub struct Row {
     pub late: u32,
 }
 
-// The family that an op is in.
+// The family that an op is in; Unknown is one, as in the definition `family_of`.
 #[derive(Clone, Copy)]
 pub enum Family {
     Local,

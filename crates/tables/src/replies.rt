@@ -1,41 +1,54 @@
-// The numbers of the replies, in one place for every crate, by the names of the header. 14 is reserved, and has none: no call gives it.
+// Why a call refuses, in one place for every crate, by the names of the header. 14 is reserved, and has no name: no call gives it.
+ghost use Rattle.std.specs.Prelude.{◌≡◌};
+ghost use Rattle.tables.specs.Replies.{number_of, reply};
 
+#[derive(Clone, Copy, PartialEq, Eq)]
+pub enum Refusal {
+    // A table, state or output buffer is too short.
+    BufferTooShort = 1,
+    // A character that is no upper-case hexadecimal digit, or no newline.
+    BadCharacter = 2,
+    LineOutOfPlace = 3,
+    BadField = 4,
+    BadTarget = 5,
+    BadWindow = 6,
+    WindowGoesBack = 7,
+    BadTable = 8,
+    BadState = 9,
+    NoSuchAgent = 10,
+    AgentEnded = 11,
+    TimeBelowClock = 12,
+    TimeBelowEarly = 13,
+    TimeAboveLate = 15,
+    OddChoices = 16,
+    InputTooLong = 17,
+    // A length that the line's first byte does not have.
+    BadLength = 18,
+    // A first byte that is not known, or none.
+    UnknownFirstByte = 19,
+    // A table's text is longer than the buffer.
+    TextTooLong = 20,
+}
+
+impl From<Refusal> for u32 {
+    ghost from_gives = { λ r n. n ≡ number_of r };
+
+    #[tactic(auto, unfolding(crate::specs::Replies::number_of))]
+    fn from(refusal: Refusal) -> u32 {
+        refusal as u32
+    }
+}
+
+// The reply of a call that is accepted.
 pub const ACCEPTED: u32 = 0;
-// A table, state or output buffer is too short.
-pub const BUFFER_TOO_SHORT: u32 = 1;
-// A character that is no upper-case hexadecimal digit, or no newline.
-pub const BAD_CHARACTER: u32 = 2;
 
-pub const LINE_OUT_OF_PLACE: u32 = 3;
-
-pub const BAD_FIELD: u32 = 4;
-
-pub const BAD_TARGET: u32 = 5;
-
-pub const BAD_WINDOW: u32 = 6;
-
-pub const WINDOW_GOES_BACK: u32 = 7;
-
-pub const BAD_TABLE: u32 = 8;
-
-pub const BAD_STATE: u32 = 9;
-
-pub const NO_SUCH_AGENT: u32 = 10;
-
-pub const AGENT_ENDED: u32 = 11;
-
-pub const TIME_BELOW_CLOCK: u32 = 12;
-
-pub const TIME_BELOW_EARLY: u32 = 13;
-
-pub const TIME_ABOVE_LATE: u32 = 15;
-
-pub const ODD_CHOICES: u32 = 16;
-
-pub const INPUT_TOO_LONG: u32 = 17;
-// A length that the line's first byte does not have.
-pub const BAD_LENGTH: u32 = 18;
-// A first byte that is not known, or none.
-pub const UNKNOWN_FIRST_BYTE: u32 = 19;
-// A table's text is longer than the buffer.
-pub const TEXT_TOO_LONG: u32 = 20;
+// The reply of a call that may refuse, as C is told: the number of the refusal, if there is one.
+#[tactic(auto, unfolding(crate::specs::Replies::reply))]
+pub fn reply_of(outcome: Result<(), Refusal>) -> u32
+    ensures { result ≡ reply outcome }
+{
+    match outcome {
+        Ok(()) => ACCEPTED,
+        Err(refusal) => u32::from(refusal),
+    }
+}

@@ -1,42 +1,30 @@
-// Lent words: whether they are 0, made 0, taken from others.
-ghost use Rattle.std.specs.Prelude.{◌≡◌, ◌≤◌, length, replicate};
+// Lent words: whether they are 0, and taken from others; an array of one value.
+ghost use Rattle.std.specs.Prelude.{ℕ, ◌≡◌, ◌≤◌, ◌<◌, length, replicate, get_or};
 ghost use Rattle.tables.specs.Basics.{zero_from};
 
-// Whether the words from i up to j are 0.
+// Whether the words from i up to j are 0. With `&` each is looked at: a loop without an early exit runs in vector registers, as `all` does not.
 pub fn all_zero(ws: &[u32], i: usize, j: usize) -> bool
     requires { (i ≤ j) × (j ≤ length ws.now) }
     ensures { result ≡ zero_from ws.now i j }
 {
-    let mut good = true;
-    let mut k = i;
-    while k < j {
-        if ws[k] != 0 {
-            good = false;
-        }
-        k += 1;
-    }
-    good
+    ws[i..j].iter().fold(true, |good, w| good & (*w == 0))
 }
 
-// Every word becomes 0.
-pub fn clear(table: &mut [u32])
-    ensures { table.new ≡ replicate (length table.old) 0 }
-{
-    let mut i = 0;
-    while i < table.len() {
-        table[i] = 0;
-        i += 1;
-    }
-}
-
-// Words of the same number take the place of others.
+// Words of the same number take the place of others. `copy_from_slice` calls memmove where the two could overlap, and the archive takes memcpy and
+// memset alone (include/tannoplex.h).
 pub fn copy(from: &[u32], to: &mut [u32])
     requires { length to.old ≡ length from.now }
     ensures { to.new ≡ from.now }
 {
-    let mut i = 0;
-    while i < to.len() {
-        to[i] = from[i];
-        i += 1;
+    for (i, word) in from.iter().enumerate() {
+        to[i] = *word;
     }
+}
+
+// An array of one value. A caller is told its length and each of its words, and not the list: its goals are not to spell out thousands of words.
+pub fn filled<T: Copy, const N: usize>(value: T) -> [T; N]
+    ensures len { length result ≡ N }
+    ensures each { (k : ℕ) (d : T) → k < N → get_or result k d ≡ value }
+{
+    [value; N]
 }

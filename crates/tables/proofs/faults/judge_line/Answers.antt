@@ -1,35 +1,33 @@
-use mathlib.Core.Path.{sym, ◌∙◌}
-use native.Mathlib.Omega.{arith}
-use Rattle.tables.proofs.Judging.{no_digits_yet, one_digit_more, judged_kind, judged_character}
+use mathlib.Core.Path.{◌≡◌, sym, ◌∙◌}
+use mathlib.Core.Bool.{true}
+use Prim.Native.Nat.{◌<◌}
+use lib.ListN.{length, take, drop, get_or}
+use Rattle.tables.specs.Lines.{hex_digit, all_hex}
+use Rattle.std.proofs.lemmas.List.{take_rest}
+use Rattle.tables.proofs.Judging.{first_odd, judged_kind, judged_character, judged_open}
 use Rattle.tables.proofs.faults.judge_line.Goals as goal
+use Rattle.tables.proofs.faults.judge_line.Goals.{In-Some}
 
-pub loop-p-init : goal.loop-p-init
-loop-p-init c = (omega arith, omega arith, no_digits_yet c.args.text.now c.args.at)
+-- where the digits end
+first : (c : In-Some) → let s = drop c.args.at c.args.text.now in
+    (c.in-Some.digits < length s) × (15 < hex_digit (get_or s c.in-Some.digits 0)) × (all_hex (take c.in-Some.digits s) ≡ true)
+first c = first_odd _ _ (sym (rw (take_rest c.args.text.now c.args.at) at c.in-Some.ensures))
+
+pub returns-in_default : goal.returns-in_default
+returns-in_default c =
+    let w = first (goal.at.returns-in_default c).In-Some in
+    sym (judged_character _ c.in-Some.digits w.2 (λ k. (w.1, rw (take_rest c.args.text.now c.args.at) at c.if-line-digits-eq10.false)) _)
+
+pub returns-in_default-2 : goal.returns-in_default-2
+returns-in_default-2 c = sym (judged_open _ _ (sym (rw (take_rest c.args.text.now c.args.at) at c.in_default.ensures)))
+
+pub returns-in-Some : goal.returns-in-Some
+returns-in-Some c =
+    let w = first (goal.at.returns-in-Some c).In-Some in
+    let p = take_rest c.args.text.now c.args.at in
+    rw p at c.judge_kind.ensures ∙ sym (judged_kind _ c.in-Some.digits w.2 w.0 (rw p at c.if-line-digits-eq10.true) _)
 
 pub judge_kind-requires : goal.judge_kind-requires
 judge_kind-requires c =
-    let l = c.loop-p in
-    (omega arith, l.invariant.2)
-
-pub returns-then-digit-gt15 : goal.returns-then-digit-gt15
-returns-then-digit-gt15 c =
-    let l = c.loop-p in
-    c.judge_kind.ensures
-    ∙ sym (judged_kind _ _ l.p l.invariant.0 l.invariant.2 c.loop-p-test.true c.if-text-p-ne10.false _)
-
-pub returns-then-text-p-ne10 : goal.returns-then-text-p-ne10
-returns-then-text-p-ne10 c =
-    let l = c.loop-p in
-    let d = c.digit.ensures in
-    sym (judged_character _ _ l.p l.invariant.0 l.invariant.2 (λ k. (omega arith, c.if-text-p-ne10.true)) _)
-
-pub loop-p-preserved : goal.loop-p-preserved
-loop-p-preserved c =
-    let l = c.loop-p in
-    let d = c.digit.ensures in
-    (omega arith, omega arith, one_digit_more _ _ l.p l.invariant.0 l.invariant.2 c.loop-p-test.true (omega arith))
-
-pub returns : goal.returns
-returns c =
-    let l = c.loop-p in
-    sym (judged_character _ _ l.p l.invariant.0 l.invariant.2 (λ k. absurd (omega arith)) _)
+    let w = first (goal.at.judge_kind-requires c).In-Some in
+    rw (take_rest c.args.text.now c.args.at) (w.0, w.2)
