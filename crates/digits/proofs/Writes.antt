@@ -1,11 +1,12 @@
 -- Digits are as many as asked, and are put one after the other. Assumes nothing.
-use mathlib.Core.Path.{◌≡◌, refl, ◌∙◌}
-use mathlib.Core.List.{List, [], ◌∷◌, ◌++◌}
-use Prim.Native.Nat.{ℕ, zero, suc, ◌+◌, ◌*◌, ◌/◌, ◌%◌}
+use mathlib.Core.Path.{◌≡◌, refl, sym, ap, ◌∙◌}
+use mathlib.Core.List.{List, [], ◌∷◌, ◌++◌, append_assoc, append-nil}
+use Prim.Native.Nat.{ℕ, zero, suc, ◌+◌, ◌*◌, ◌/◌, ◌%◌, ◌≤◌, ◌<◌}
 use native.Mathlib.Numerals.{add-one}
 use native.Mathlib.Omega.{arith}
-use lib.ListN.{length, set, length-append}
-use lib.Seq.{sets}
+use lib.ListN.{length, set, take, get_or, length-append}
+use lib.Seq.{sets, sets-eq, drop-drop, take-suc, length-take-le}
+use borrow.Rule.Slice.PartMut.{put_mid}
 use Rattle.tables.proofs.Stored.{sets_append, set_past, run_then}
 use Rattle.digits.specs.Hex.{hex_char, hex_digits, hex_words}
 
@@ -30,3 +31,22 @@ lowest_first l at k m =
     rw add-one
     (set_past (hex_digits k (m / 16)) l at (at + k) (hex_char (m % 16)) (omega arith)
     ∙ rw (sets_append (hex_digits k (m / 16)) (hex_char (m % 16) ∷ []) l at, n))
+
+-- a part of a buffer that is copied over
+pub part_copied : (vs l : List ℕ) (i k : ℕ) → k ≡ length vs → i + length vs ≤ length l → put_mid i k l vs ≡ sets l i vs
+part_copied vs l i k e h = rw (e, drop-drop (length vs) i l, ← append_assoc) (sym (sets-eq vs l i h))
+
+-- words that are put one after the other: one more
+hex_words_append : (vs ws : List ℕ) → hex_words (vs ++ ws) ≡ hex_words vs ++ hex_words ws
+unfolding hex_words
+hex_words_append [] ws = refl
+hex_words_append (v ∷ vs) ws = ap (λ (l : List ℕ). hex_digits 8 v ++ l) (hex_words_append vs ws) ∙ sym (append_assoc (hex_digits 8 v) (hex_words vs) (hex_words ws))
+
+pub word_more : (ws l m r : List ℕ) (i at : ℕ) → i < length ws → m ≡ sets l at (hex_words (take i ws)) → r ≡ sets m (at + 8 * i) (hex_digits 8 (get_or ws i 0)) → r ≡ sets l at (hex_words (take (i + 1) ws))
+unfolding hex_words
+word_more ws l m r i at h e f =
+    let w = get_or ws i 0 in
+    let n = hex_words_length (take i ws) in
+    let t = length-take-le i ws (omega arith) in
+    let whole : hex_words (take (i + 1) ws) ≡ hex_words (take i ws) ++ hex_digits 8 w = rw (add-one i, take-suc ws i 0 h, hex_words_append (take i ws) (w ∷ []), append-nil (hex_digits 8 w)) in
+    run_then (hex_words (take i ws)) l m r (hex_digits 8 w) at (at + 8 * i) e (omega arith) f ∙ ap (sets l at) (sym whole)

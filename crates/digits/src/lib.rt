@@ -1,31 +1,22 @@
 // Text of upper-case hexadecimal digits, put into a lent buffer from a place on. (The digits that are read are in tables/src/hex.rt.)
 #![tactic(auto)]
 
-ghost use Rattle.std.specs.Prelude.{◌≡◌, [], ◌∷◌, ◌+◌, ◌≤◌, ◌<◌, length};
+ghost use Rattle.std.specs.Prelude.{◌≡◌, ◌+◌, ◌≤◌, ◌<◌, length};
 ghost use Rattle.std.proofs.lemmas.List.Edits.{sets};
 ghost use Rattle.digits.specs.Hex.{hex_char, hex_digits, hex_words};
 ghost use Rattle.digits.specs.Eight.{eight_of};
 
-// The digits of a byte and of a word, and where the second, third and fourth of four words begin.
+// The digits of a byte and of a word.
 pub const BYTE_DIGITS: usize = 2;
 
 const WORD_DIGITS: usize = 8;
 
-const SECOND_OF_FOUR: usize = WORD_DIGITS;
-
-const THIRD_OF_FOUR: usize = SECOND_OF_FOUR + WORD_DIGITS;
-
-const FOURTH_OF_FOUR: usize = THIRD_OF_FOUR + WORD_DIGITS;
-
-// The upper-case hexadecimal digit of a number below 16.
+// The upper-case hexadecimal digit of a number below 16. (A look-up: char::from_digit gives lower case.)
 fn hex_char(d: u32) -> u8
     requires { d < 16 }
     ensures { result ≡ hex_char d }
 {
-    if d < 10 {
-        return (48 + d) as u8;
-    }
-    (55 + d) as u8
+    b"0123456789ABCDEF"[d as usize]
 }
 
 // The k lowest digits of m, the highest first.
@@ -33,12 +24,10 @@ pub fn put_hex(out: &mut [u8], at: usize, k: usize, m: u32)
     requires { at + k ≤ length out.old }
     ensures { out.new ≡ sets out.old at (hex_digits k m) }
 {
-    let mut i = k;
     let mut v = m;
-    while 0 < i {
-        i -= 1;
+    for i in (0..k).rev() {
         out[at + i] = hex_char(v % 16);
-        v = v / 16;
+        v /= 16;
     }
 }
 
@@ -47,14 +36,7 @@ fn put_eight(out: &mut [u8], at: usize, x: u64)
     requires { at + 8 ≤ length out.old }
     ensures { out.new ≡ sets out.old at (eight_of x) }
 {
-    out[at] = (x % 256) as u8;
-    out[at + 1] = (x / 256 % 256) as u8;
-    out[at + 2] = (x / 65536 % 256) as u8;
-    out[at + 3] = (x / 16777216 % 256) as u8;
-    out[at + 4] = (x / 4294967296 % 256) as u8;
-    out[at + 5] = (x / 1099511627776 % 256) as u8;
-    out[at + 6] = (x / 281474976710656 % 256) as u8;
-    out[at + 7] = (x / 72057594037927936 % 256) as u8;
+    out[at..at + 8].copy_from_slice(&x.to_le_bytes());
 }
 
 // The eight digits of a word, all at once: its halves are moved apart, then their bytes, then the digits, each to a byte of its own, the first to the lowest.
@@ -71,13 +53,13 @@ pub fn put_word(out: &mut [u8], at: usize, w: u32)
     put_eight(out, at, digits + 0x3030_3030_3030_3030 + 7 * letters);
 }
 
-// Four words: registers, or a row's.
-pub fn put_four(out: &mut [u8], at: usize, w: u32, x: u32, y: u32, z: u32)
+// Four words, one after the other: registers, or a row's. They are passed as a copy, so that all are read before the first digit is put and two of them become digits at once;
+// a part that is lent would be read word by word between the stores.
+pub fn put_four(out: &mut [u8], at: usize, words: [u32; 4])
     requires { at + 32 ≤ length out.old }
-    ensures { out.new ≡ sets out.old at (hex_words (w ∷ x ∷ y ∷ z ∷ [])) }
+    ensures { out.new ≡ sets out.old at (hex_words words) }
 {
-    put_word(out, at, w);
-    put_word(out, at + SECOND_OF_FOUR, x);
-    put_word(out, at + THIRD_OF_FOUR, y);
-    put_word(out, at + FOURTH_OF_FOUR, z);
+    for (i, w) in words.iter().enumerate() {
+        put_word(out, at + WORD_DIGITS * i, *w);
+    }
 }

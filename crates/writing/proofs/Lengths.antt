@@ -2,13 +2,16 @@
 use mathlib.Core.Path.{◌≡◌, refl, sym, ap, ◌∙◌}
 use mathlib.Core.Bool.{Bool, true, false}
 use mathlib.Core.List.{List, [], ◌∷◌, ◌++◌, append_assoc}
-use Prim.Native.Nat.{ℕ, zero, suc, ◌+◌, ◌*◌, ◌≤◌, ◌<◌}
-use native.Mathlib.Numerals.{add-one}
+use Prim.Native.Nat.{ℕ, zero, suc, ◌+◌, ◌*◌, ◌-◌, ◌^◌, ◌≤◌, ◌<◌}
 use native.Mathlib.Omega.{arith}
 use lib.Dec.{eqb}
-use lib.ListN.{length, length-append}
+use lib.ListN.{length, take, drop, get_or, length-append, length-drop}
+use lib.Seq.{take-suc}
+use Rattle.std.specs.Prelude.{sum}
+use Rattle.std.proofs.lemmas.List.{get_or-drop}
+use Rattle.std.proofs.lemmas.List.Sums.{sum_by-append}
 use borrow.Author.Tests.{eqb-true, eqb-false}
-use Rattle.tables.specs.Layout.{agents, rows, start_place, row_place}
+use Rattle.tables.specs.Layout.{table_words, agents, rows, start_place, row_place}
 use Rattle.tables.specs.Table.{good_table}
 use Rattle.tables.specs.Frames.{Frame}
 use Rattle.tables.proofs.Good.{some, few, some_rows, few_rows}
@@ -95,42 +98,36 @@ module _ (tb : List ℕ) where
         let f = few tb good in
         (omega arith, omega arith)
 
--- ---- the lines of a table, counted agent by agent: n agents, and the rows of the first a of them
+-- ---- the row counts of a table, as they stand in it
 
-pub record Counted (tb : List ℕ) (n lines a : ℕ) : Type 0 where
-  pub within : a ≤ n
-  pub all : n ≡ agents tb
-  pub sum : lines ≡ n + row_total tb a
-
-pub counted_none : (tb : List ℕ) (n : ℕ) → n ≡ agents tb → Counted tb n n 0
+pub counts_sum : (tb : List ℕ) (n : ℕ) → n < length tb → sum (take n (drop 1 tb)) ≡ row_total tb n
 unfolding row_total
-counted_none tb n e = record { within = omega arith; all = e; sum = omega arith }
+counts_sum tb zero h = refl
+counts_sum tb (suc n) h =
+    let r = counts_sum tb n (omega arith) in
+    let m : n < length (drop 1 tb) = simp length-drop (omega arith) in
+    let e : get_or (drop 1 tb) n 0 ≡ rows tb n = get_or-drop 1 tb n 0 in
+    let s = ap sum (take-suc (drop 1 tb) n 0 m) ∙ sum_by-append (λ (x : ℕ). x) (take n (drop 1 tb)) (get_or (drop 1 tb) n 0 ∷ []) in
+    omega arith
 
-module _ {tb : List ℕ} {n lines a : ℕ} (t : Counted tb n lines a) where
-  pub counted_next : a < n → (c : ℕ) → c ≡ rows tb a → Counted tb n (lines + c) (a + 1)
-  unfolding row_total
-  counted_next h c e = record { within = omega arith; all = t.all; sum = let s = t.sum in rw (add-one a) (omega arith) }
+-- of a good table
+module _ (tb : List ℕ) (good : good_table tb ≡ true) where
+  -- its row counts are those from place i to before place j
+  pub counted : length tb ≡ table_words → (i j : ℕ) → i ≡ 1 → j ≡ 1 + agents tb → sum (take (j - i) (drop i tb)) ≡ row_total tb (agents tb)
+  counted l i j e f =
+      let w = few tb good in
+      let m : j - i ≡ agents tb = omega arith in
+      rw (m, e) (counts_sum tb (agents tb) (omega arith))
 
-  module _ (good : good_table tb ≡ true) where
-    pub few_agents : n ≤ 16
-    few_agents = let f = few tb good in let e = t.all in omega arith
+  pub few_counted : length tb ≡ table_words → (i j : ℕ) → i ≡ 1 → j ≡ 1 + agents tb → sum (take (j - i) (drop i tb)) < 2 ^ 32
+  few_counted l i j e f =
+      let w = few tb good in
+      let r = (rows_within tb good (agents tb) (omega arith)).1 in
+      rw (counted l i j e f) (omega arith)
 
-    pub few_lines : lines ≤ 528
-    few_lines =
-        let e = t.all in
-        let w = t.within in
-        let s = t.sum in
-        let r = (rows_within tb good a (omega arith)).1 in
-        let f = few_agents in
-        omega arith
-
-    pub measured : n ≤ a → (37 * lines + 3 ≡ length (text_of tb)) × (37 * lines + 3 ≤ 19539)
-    unfolding text_length
-    measured h =
-        let w = t.within in
-        let all : a ≡ agents tb = omega (arith, t.all) in
-        let e = text_length_lem tb in
-        let q = ap (row_total tb) all in
-        let s = t.sum in
-        let f = few_lines in
-        (omega arith, omega arith)
+  pub measured : (n c : ℕ) → n ≡ agents tb → c ≡ row_total tb (agents tb) → (37 * (n + c) + 3 ≡ length (text_of tb)) × (37 * (n + c) + 3 ≤ 19539)
+  unfolding text_length
+  measured n c e f =
+      let l = text_length_lem tb in
+      let w = (length_within tb good).1 in
+      (omega arith, omega arith)

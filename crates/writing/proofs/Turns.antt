@@ -15,21 +15,22 @@ use Rattle.writing.proofs.Lengths.{frame_length, rows_length, agent_lines, text_
 
 module _ (tb : List ℕ) where
   -- the line of row i, and then the rows that are left
-  pub row_turn : (text after : List ℕ) (p a i c : ℕ) → i < c → after ≡ sets text p (frame_line 0x01 a (four_at tb (row_place a i)))
-      → sets after (p + 37) (lines_of (rows_from tb a (i + 1) (c - (i + 1)))) ≡ sets text p (lines_of (rows_from tb a i (c - i)))
+  pub row_turn : (text after : List ℕ) (at a i c : ℕ) → i < c → after ≡ sets text (at + 37 * i) (frame_line 0x01 a (four_at tb (row_place a i)))
+      → sets after (at + 37 * (i + 1)) (lines_of (rows_from tb a (i + 1) (c - (i + 1)))) ≡ sets text (at + 37 * i) (lines_of (rows_from tb a i (c - i)))
   unfolding lines_of rows_from line_of
-  row_turn text after p a i c h e =
+  row_turn text after at a i c h e =
       let f = frame_line 0x01 a (four_at tb (row_place a i)) in
       let n = frame_length 0x01 a (four_at tb (row_place a i)) refl in
       let s : c - i ≡ suc (c - (i + 1)) = omega arith in
       let rest = lines_of (rows_from tb a (i + 1) (c - (i + 1))) in
-      run_then f text after (sets after (p + 37) rest) rest p (p + 37) e (omega arith) refl
+      let p = at + 37 * (i + 1) in
+      run_then f text after (sets after p rest) rest (at + 37 * i) p e (omega arith) refl
       ∙ rw (s, add-one i)
 
   -- the line of agent a and those of its rows, and then the agents that are left
   agent_turn : (text opened after : List ℕ) (p a n c : ℕ) → a < n → c ≡ rows tb a → opened ≡ sets text p (frame_line 0x00 a (four_at tb (start_place a)))
       → after ≡ sets opened (p + 37) (lines_of (rows_from tb a 0 c))
-      → sets after (p + 37 + 37 * c) (lines_of (agents_from tb (a + 1) (n - (a + 1)))) ≡ sets text p (lines_of (agents_from tb a (n - a)))
+      → sets after (p + 37 * (1 + c)) (lines_of (agents_from tb (a + 1) (n - (a + 1)))) ≡ sets text p (lines_of (agents_from tb a (n - a)))
   agent_turn text opened after p a n c h k e g =
       let f = frame_line 0x00 a (four_at tb (start_place a)) in
       let l = frame_length 0x00 a (four_at tb (start_place a)) refl in
@@ -37,9 +38,9 @@ module _ (tb : List ℕ) where
       let s : n - a ≡ suc (n - (a + 1)) = omega arith in
       let rest = lines_of (agents_from tb (a + 1) (n - (a + 1))) in
       let lines = lines_of (rows_from tb a 0 c) in
-      let r = sets after (p + 37 + 37 * c) rest in
+      let r = sets after (p + 37 * (1 + c)) rest in
       run_then f text opened r (lines ++ rest) p (p + 37) e (omega arith)
-      (run_then lines opened after r rest (p + 37) (p + 37 + 37 * c) g (omega arith) refl)
+      (run_then lines opened after r rest (p + 37) (p + 37 * (1 + c)) g (omega arith) refl)
       ∙ ap (λ (q : ℕ). sets text p (f ++ (lines_of (rows_from tb a 0 q) ++ rest))) k
       ∙ ap (sets text p) (ap (λ (q : ℕ). f ++ (lines_of (rows_from tb a 0 (rows tb a)) ++ lines_of (agents_from tb q (n - (a + 1))))) (add-one a) ∙ sym (agent_lines tb a (n - (a + 1))) ∙ ap (λ (q : ℕ). lines_of (agents_from tb a q)) (sym s))
 
@@ -89,7 +90,7 @@ module _ {tb text₀ text : List ℕ} {n at a : ℕ} (t : Left tb text₀ text n
 
   pub next_left : (opened after : List ℕ) (c : ℕ) → a < n → c ≡ rows tb a → opened ≡ sets text at (frame_line 0x00 a (four_at tb (start_place a)))
       → after ≡ sets opened (at + 37) (lines_of (rows_from tb a 0 c)) → length opened ≡ length text → length after ≡ length opened
-      → Left tb text₀ after n (at + 37 + 37 * c) (a + 1)
+      → Left tb text₀ after n (at + 37 * (1 + c)) (a + 1)
   unfolding row_total
   next_left opened after c h k e g l m = record {
     within = omega arith;

@@ -1,10 +1,13 @@
 -- What `write` replies and leaves, as one statement over its inputs, its reply and every lent byte afterwards. Assumes nothing.
-use Rattle.std.specs.Prelude.{◌≡◌, true, false, List, ◌++◌, ℕ, zero, suc, ltb, length, take, drop}
+use Rattle.std.specs.Prelude.{◌≡◌, true, false, Result, Ok, Err, List, ◌++◌, ℕ, zero, suc, ltb, length, take, drop}
 use Rattle.std.proofs.Common.{sym, ◌∙◌}
 use Rattle.tables.specs.Layout.{table_words}
+use Rattle.tables.specs.Replies.{number_of}
 use Rattle.tables.specs.Calls.{check_reply}
 use Rattle.writing.specs.Writer.{text_of}
 use Rattle.writing.specs.declared.Wrote.{Wrote}
+use Rattle.writing.specs.declared.Unwritten.{Unwritten}
+use Rattle.writing.specs.declared.Unwritten.TheVariants.{Refused, TooLong}
 
 -- a reply with the length that it tells, and the bytes of the lent text afterwards
 pub record WriteOutcome : Type 0 where
@@ -13,6 +16,12 @@ pub record WriteOutcome : Type 0 where
 
 abbrev pub wrote : (reply length : ℕ) → Wrote
 wrote r n = record { reply = r; length = n }
+
+-- what a call tells C, by its result: its text's length, or why it is not written
+abbrev pub wrote_of : Result ℕ Unwritten → Wrote
+wrote_of (Ok n) = wrote 0 n
+wrote_of (Err (Refused r)) = wrote (number_of r) 0
+wrote_of (Err (TooLong n)) = wrote 20 n
 
 abbrev pub write_outcome : Wrote → List ℕ → WriteOutcome
 write_outcome w text = record { wrote = w; text = text }

@@ -6,7 +6,9 @@ ghost use Rattle.tables.specs.Lines.{end_line};
 ghost use Rattle.writing.specs.Writer.{four_at, frame_line, lines_of, rows_from};
 
 use digits::{BYTE_DIGITS, put_four, put_hex};
-use tables::frames::{AGENT_AT, END_LINE, FIRST_WORD, FRAME_BYTES, FRAME_DIGITS, GIVES, OPENS};
+use tables::frames::{
+    AGENT_AT, END_BYTES, END_LINE, FIRST_WORD, FRAME_BYTES, FRAME_DIGITS, GIVES, OPENS,
+};
 use tables::layout::{row_place, start_place};
 
 // The line of this kind, for agent a, with the four words from place p of the table on.
@@ -19,10 +21,7 @@ fn put_line(text: &mut [u8], at: usize, kind: u32, a: usize, table: &[u32], p: u
     put_four(
         text,
         at + FIRST_WORD,
-        table[p],
-        table[p + 1],
-        table[p + 2],
-        table[p + 3],
+        [table[p], table[p + 1], table[p + 2], table[p + 3]],
     );
     text[at + FRAME_DIGITS] = b'\n';
 }
@@ -40,12 +39,8 @@ pub fn put_row_lines(text: &mut [u8], at: usize, table: &[u32], a: usize, c: usi
     requires { (at + 37 * c ≤ length text.old) × (length table.now ≡ table_words) × (a < 16) × (c ≤ 32) }
     ensures { text.new ≡ sets text.old at (lines_of (rows_from table.now a 0 c)) }
 {
-    let mut p = at;
-    let mut i = 0;
-    while i < c {
-        put_line(text, p, GIVES, a, table, row_place(a, i));
-        p += FRAME_BYTES;
-        i += 1;
+    for i in 0..c {
+        put_line(text, at + FRAME_BYTES * i, GIVES, a, table, row_place(a, i));
     }
 }
 
@@ -54,7 +49,5 @@ pub fn put_end_line(text: &mut [u8], at: usize)
     requires { at + 3 ≤ length text.old }
     ensures { text.new ≡ sets text.old at end_line }
 {
-    text[at] = END_LINE[0];
-    text[at + 1] = END_LINE[1];
-    text[at + 2] = END_LINE[2];
+    text[at..at + END_BYTES].copy_from_slice(&END_LINE);
 }

@@ -1,13 +1,9 @@
 -- `put_row_lines` meets its contract. The invariant: the rows that are left, written from here, make the whole. Assumes nothing.
 use mathlib.Core.Path.{◌≡◌}
-use Prim.Native.Nat.{◌+◌, ◌*◌, ◌-◌, ◌≤◌}
-use lib.ListN.{length}
+use Prim.Native.Nat.{◌+◌, ◌*◌, ◌-◌}
 use lib.Seq.{sets}
 use Rattle.writing.specs.Writer.{lines_of, rows_from}
 use Rattle.writing.proofs.lines.put_row_lines.Given as goal
 
 abbrev pub invariant-loop-i : goal.invariant-loop-i
-invariant-loop-i l = (sets l.text l.p (lines_of (rows_from l.table l.a l.i (l.c - l.i))) ≡ sets l.initial.text l.at (lines_of (rows_from l.table l.a 0 l.c))) × (l.p ≡ l.at + 37 * l.i) × (l.i ≤ l.c) × (length l.text ≡ length l.initial.text)
-
-abbrev pub decreases-loop-i : goal.decreases-loop-i
-decreases-loop-i l = l.c - l.i
+invariant-loop-i l = sets l.text (l.at + 37 * l.i) (lines_of (rows_from l.table l.a l.i (l.c - l.i))) ≡ sets l.initial.text l.at (lines_of (rows_from l.table l.a 0 l.c))

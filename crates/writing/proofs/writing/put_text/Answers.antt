@@ -7,6 +7,12 @@ use Rattle.writing.proofs.writing.put_text.Goals as goal
 pub returns : goal.returns
 returns c = none_left_lem c.loop-a.invariant c.loop-a-test.false _ c.put_end_line.ensures
 
+pub loop-a-preserved : goal.loop-a-preserved
+loop-a-preserved c =
+    let o = c.put_agent_line in
+    let r = c.put_row_lines in
+    next_left c.loop-a.invariant _ _ _ c.loop-a-test.true c.row_count-c.ensures o.ensures r.ensures o.auto.text r.auto.text
+
 pub loop-a-init : goal.loop-a-init
 loop-a-init c = all_left _ _ _ c.agent_count-n.ensures
 
@@ -37,19 +43,13 @@ put_row_lines-requires c =
     let r = agent_room t c.requires.2 h in
     (omega arith, c.requires.0, omega arith, omega arith)
 
-pub overflow_add-at-in-loop-a : goal.overflow_add-at-in-loop-a
-overflow_add-at-in-loop-a c =
+pub overflow_add-at-in-loop-a-2 : goal.overflow_add-at-in-loop-a-2
+overflow_add-at-in-loop-a-2 c =
     let t = c.loop-a.invariant in
     let h = c.loop-a-test.true in
     let k = c.row_count-c.ensures in
     let r = agent_room t c.requires.2 h in
     search rules
-
-pub loop-a-preserved : goal.loop-a-preserved
-loop-a-preserved c =
-    let o = c.put_agent_line in
-    let r = c.put_row_lines in
-    next_left c.loop-a.invariant _ _ _ c.loop-a-test.true c.row_count-c.ensures o.ensures r.ensures o.auto.text r.auto.text
 
 pub put_end_line-requires : goal.put_end_line-requires
 put_end_line-requires c = end_room c.loop-a.invariant c.requires.2 c.loop-a-test.false
