@@ -32,9 +32,6 @@ module _ (tb : List ℕ) where
     abbrev pub RowsLeft : ℕ → Type 0
     RowsLeft i = rows_climb tb n a 0 c ≡ rows_climb tb (n + i) a i (c - i)
 
-    pub first_row : RowsLeft 0
-    first_row = let e : n ≡ n + 0 = omega arith in let f : c ≡ c - 0 = omega arith in (λ k. rows_climb tb (e k) a 0 (f k))
-
     module _ (i : ℕ) (t : RowsLeft i) (l : i < c) where
       one_more : rows_climb tb n a 0 c ≡ rows_climb tb (n + i) a i (suc (c - (i + 1)))
       one_more = let e : c - i ≡ suc (c - (i + 1)) = omega arith in t ∙ ap (rows_climb tb (n + i) a i) e

@@ -2,9 +2,11 @@
 use mathlib.Core.Path.{◌≡◌, refl, sym, ap, ◌∙◌}
 use mathlib.Core.Bool.{false}
 use mathlib.Core.List.{List, [], ◌∷◌}
-use Prim.Native.Nat.{ℕ, ◌+◌, ◌-◌, ◌≤◌}
+use Prim.Native.Nat.{ℕ, ◌+◌, ◌-◌, ◌≤◌, ◌<◌}
 use native.Mathlib.Omega.{arith}
-use lib.ListN.{length, drop, set, replicate, length-set, length-replicate}
+use Rattle.std.proofs.lemmas.List.{get_or-replicate}
+use Rattle.std.proofs.lemmas.Grind.{same_number_lists}
+use lib.ListN.{length, get_or, drop, set, replicate, length-set, length-replicate}
 use lib.Seq.{sets, length-sets}
 use Rattle.tables.specs.Layout.{table_words, agents_place, count_place, start_place, row_place}
 use Rattle.tables.specs.Frames.{Frame, opens, gives, ends, malformed, frames_of}
@@ -22,15 +24,18 @@ pub record Filling (text tb : List ℕ) (p a i : ℕ) : Type 0 where
   pub words : length tb ≡ table_words
   pub told : loaded tb a i (frames_of (drop p text)) ≡ table_of (frames_of text)
 
-pub first_words : (text tb : List ℕ) (n : ℕ) → (in_place 1 0 0 (frames_of text)).reply ≡ 0 → n ≡ table_words → tb ≡ replicate n 0 → Filling text tb 0 0 0
+pub first_words : (text tb : List ℕ) → (in_place 1 0 0 (frames_of text)).reply ≡ 0 → length tb ≡ table_words → ((k : ℕ) → k < table_words → get_or tb k 0 ≡ 0)
+    → Filling text tb 0 0 0
 unfolding table_of
-first_words text tb n h k e =
+first_words text tb h k z =
+    let n = length-replicate {A = ℕ} table_words 0 in
+    let e = same_number_lists tb (replicate table_words 0) (k ∙ sym n) (λ i l. z i (omega arith) ∙ sym (get_or-replicate table_words i 0 0 (omega arith))) in
     record {
       within = omega arith;
       line = 1;
       placed = placed_first (frames_of text) h;
-      words = ap length e ∙ length-replicate n 0 ∙ k;
-      told = ap (λ (l : List ℕ). loaded l 0 0 (frames_of text)) (e ∙ ap (λ (m : ℕ). replicate m 0) k);
+      words = k;
+      told = ap (λ (l : List ℕ). loaded l 0 0 (frames_of text)) e;
     }
 
 module _ {text tb : List ℕ} {p a i : ℕ} (t : Filling text tb p a i) where

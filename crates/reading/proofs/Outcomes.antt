@@ -7,11 +7,43 @@ use lib.ListN.{length, drop, replicate, length-replicate, drop_of_length-le}
 use lib.Dec.{ltb}
 use native.Mathlib.Omega.{arith}
 use borrow.Author.Tests.{lt-ltb, le-ltb, ltb-true, ltb-false}
+use Rattle.std.specs.Prelude.{Result, Ok, Err}
+use Rattle.tables.specs.Replies.{reply}
+use Rattle.tables.specs.declared.replies.Refusal.{Refusal}
+use Rattle.tables.proofs.Refusals.{no_zero}
 use Rattle.tables.specs.Layout.{table_words}
 use Rattle.tables.specs.Frames.{Frame, frames_of}
-use Rattle.reading.specs.Reader.{told, in_place, rows_good, table_climbs, first_told, frames_reply, table_of}
+use Rattle.reading.specs.Reader.{told, told_of, told_at, in_place, rows_good, table_climbs, first_told, frames_reply, table_of}
 use Rattle.reading.specs.Calls.{ReadOutcome, read_outcome, frames_into, read_into, Read}
+use Rattle.reading.specs.declared.Refused.{Refused}
 use Rattle.reading.specs.declared.Told.{Told}
+
+-- ---- an answer to line n, by what it replies
+
+module _ (n : ℕ) (q : Result Unit Refusal) where
+  pub told_refused : (r : ℕ) → reply q ≡ r → (r ≡ 0 → ⊥) → told_at n q ≡ told r n
+  unfolding reply
+  told_refused r e k = go q e
+    where
+      go : (q : Result Unit Refusal) → reply q ≡ r → told_at n q ≡ told r n
+      go (Ok _) e = absurd (k (sym e))
+      go (Err f) e = ap (λ (m : ℕ). told m n) e
+
+  pub answer_accepted : told 0 0 ≡ told_at n q → reply q ≡ 0
+  unfolding reply
+  answer_accepted e = go q e
+    where
+      go : (q : Result Unit Refusal) → told 0 0 ≡ told_at n q → reply q ≡ 0
+      go (Ok _) e = refl
+      go (Err f) e = ap (λ (t : Told). t.reply) (sym e)
+
+  pub answer_refused : (f : Refused) → told_of (Err f) ≡ told_at n q → reply q ≡ 0 → ⊥
+  unfolding reply
+  answer_refused f e z = go q e z
+    where
+      go : (q : Result Unit Refusal) → told_of (Err f) ≡ told_at n q → reply q ≡ 0 → ⊥
+      go (Ok _) e z = no_zero f.refusal (ap (λ (t : Told). t.reply) e)
+      go (Err g) e z = no_zero g z
 
 -- ---- the first of two that are told
 

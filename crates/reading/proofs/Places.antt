@@ -2,21 +2,24 @@
 use mathlib.Core.Path.{◌≡◌, refl, sym, ap, ◌∙◌}
 use mathlib.Core.Bool.{Bool, true, false, not, ◌&&◌}
 use mathlib.Core.List.{List, [], ◌∷◌}
-use Prim.Native.Nat.{ℕ, ◌+◌, ◌-◌, ◌≤◌, ◌<◌}
+use Prim.Native.Nat.{ℕ, ◌+◌, ◌*◌, ◌-◌, ◌≤◌, ◌<◌}
 use native.Mathlib.Numerals.{one-add}
 use native.Mathlib.Omega.{arith}
-use lib.Dec.{ltb, leb, eqb}
+use lib.Dec.{ltb, eqb}
 use lib.ListN.{length, drop}
-use borrow.Author.Tests.{ltb-true, ltb-false, leb-false, eqb-true, eqb-false, lt-ltb, le-leb, lt-leb, eq-eqb, ne_eqb, not-false}
+use borrow.Author.Tests.{ltb-true, leb-false, eqb-true, eqb-false, lt-ltb, lt-leb, eq-eqb, ne_eqb, not-false}
+use Rattle.std.specs.Prelude.{Result}
 use Rattle.tables.specs.Basics.{first, ◌⇒◌, Rule}
 use Rattle.tables.specs.Faults.{judged_reply, judge}
 use Rattle.tables.specs.Frames.{Frame, opens, gives, ends, malformed, known_in_tables, frames_of}
 use Rattle.tables.specs.Heads.{line_length, line_from, head_line, line_at, words_at}
-use Rattle.tables.specs.declared.faults.Judged.{Judged}
+use Rattle.tables.specs.declared.faults.Fault.{Fault}
 use Rattle.reading.specs.Reader.{told, none_left, past_end, opening_rules, row_rules, end_rules, told_by, in_place, rows_next}
 use Rattle.tables.specs.declared.frames.Line.{Line}
 use Rattle.tables.specs.declared.frames.Line.TheVariants.{Opens, Gives, Ends, Malformed}
-use Rattle.tables.proofs.Tests.{and_both, and_left, and_right, not_t}
+use Rattle.tables.proofs.Judging.{fault_some}
+use Rattle.std.proofs.lemmas.Bool.{and_left, not_from_true}
+use Rattle.tables.proofs.Tests.{and_both, and_right}
 use Rattle.tables.proofs.Passed.{test_at, passed}
 use Rattle.tables.proofs.Heads.{framed, ended, no_frames, some_frames, first_frame, faulted_at}
 
@@ -52,21 +55,6 @@ three ((false ⇒ r) ∷ rs) t h = three rs t.1 h
 
 and_left_true : (s t : Bool) → s ≡ true → (s && t) ≡ false → t ≡ false
 and_left_true s t e h = sym (ap (λ (u : Bool). u && t) e) ∙ h
-
--- the code's last tests
-pub row_room : (i : ℕ) → leb 32 i ≡ not (ltb i 32)
-row_room i = go (ltb i 32) refl
-  where
-    go : (t : Bool) → ltb i 32 ≡ t → leb 32 i ≡ not t
-    go true e = lt-leb 32 i (ltb-true i 32 e)
-    go false e = le-leb 32 i (ltb-false i 32 e)
-
-pub some_rows : (a i : ℕ) → (a ≡ 0 → ⊥) → (ltb 0 a && eqb i 0) ≡ not (ltb 0 i)
-some_rows a i n = go (ltb 0 i) refl
-  where
-    go : (t : Bool) → ltb 0 i ≡ t → (ltb 0 a && eqb i 0) ≡ not t
-    go true e = let l = ltb-true 0 i e in and_right (ltb 0 a) (eqb i 0) (ne_eqb i 0 (λ z. omega arith))
-    go false e = let l = ltb-false 0 i e in and_both (ltb 0 a) (eqb i 0) (lt-ltb 0 a (omega (arith, n))) (eq-eqb i 0 (omega arith))
 
 -- ---- an opening line and a row's break no rule
 
@@ -108,7 +96,7 @@ module _ (b a i : ℕ) (h : may_give b a i ≡ true) where
 pub may_open_lem : (a i : ℕ) → a < 16 → (0 < a → 0 < i) → may_open a a i ≡ true
 may_open_lem a i h some =
     sym
-    (rule_kept _ _ _ _ (not_t (eqb a a) (eq-eqb a a refl))
+    (rule_kept _ _ _ _ (not_from_true (eqb a a) (eq-eqb a a refl))
     (rule_kept _ _ _ _ (lt-leb 16 a h)
     (rule_kept _ _ _ _ (none (ltb 0 a) refl) no_rule)))
   where
@@ -120,7 +108,7 @@ pub may_give_lem : (b i : ℕ) → i < 32 → may_give b (b + 1) i ≡ true
 may_give_lem b i h =
     sym
     (rule_kept _ _ _ _ (ne_eqb (b + 1) 0 (λ e. omega arith))
-    (rule_kept _ _ _ _ (not_t (eqb b (b + 1 - 1)) (eq-eqb b (b + 1 - 1) (omega arith)))
+    (rule_kept _ _ _ _ (not_from_true (eqb b (b + 1 - 1)) (eq-eqb b (b + 1 - 1) (omega arith)))
     (rule_kept _ _ _ _ (lt-leb 32 i h) no_rule)))
 
 module _ (n a i b : ℕ) (ws : List ℕ) (fs : List Frame) where
@@ -222,11 +210,70 @@ module _ (text : List ℕ) (p : ℕ) (within : p ≤ length text) (n a i : ℕ) 
       let f = faulted_at text p h e in
       ap (in_place n a i) (first_frame text p h)
       ∙ ap (λ (x : Frame). in_place n a i (x ∷ frames_of (drop (line_length (drop p text)) (drop p text)))) f.frame
-      ∙ ap (λ (j : Judged). told (judged_reply j) n) (sym f.judged)
+      ∙ ap (λ (j : Result Unit Fault). told (judged_reply j) n) (sym f.judged)
+
+  pub broken_some : line_at text p ≡ Malformed → p < length text → judged_reply (judge known_in_tables (line_from text p)) ≡ 0 → ⊥
+  unfolding judged_reply
+  broken_some e h z =
+      let f = faulted_at text p h e in
+      fault_some _ (ap judged_reply (sym f.judged) ∙ z)
 
   pub stopped : length text ≤ p → in_place n a i (frames_of (drop p text)) ≡ told 3 n
   unfolding in_place first
   stopped h = ap (in_place n a i) (no_frames text p h)
+
+-- ---- before the line at place p: line n is next, after a agents of which the last has i rows
+
+pub record Reached (text : List ℕ) (p n a i : ℕ) : Type 0 where
+  pub within : p ≤ length text
+  pub agents : a ≤ 16
+  pub rows : i ≤ 32
+  pub rows_all : i ≤ 32 * a
+  pub line : n ≤ 33 * a + i + 1
+  pub told : in_place 1 0 0 (frames_of text) ≡ in_place n a i (frames_of (drop p text))
+
+module _ (text : List ℕ) (p n a i : ℕ) (t : Reached text p n a i) where
+  pub reached_open : (b : ℕ) → line_at text p ≡ Opens b → may_open b a i ≡ true → Reached text (p + 37) (n + 1) (a + 1) 0
+  reached_open b e h =
+      let r = open_room b a i h in
+      let l = t.line in
+      let m = t.rows in
+      record {
+        within = (framed text p t.within (Opens b) e refl).room;
+        agents = omega arith;
+        rows = omega arith;
+        rows_all = omega arith;
+        line = omega arith;
+        told = t.told ∙ opened text p t.within n a i b e h;
+      }
+
+  pub reached_give : (b : ℕ) → line_at text p ≡ Gives b → may_give b a i ≡ true → Reached text (p + 37) (n + 1) a (i + 1)
+  reached_give b e h =
+      let r = give_room b a i h in
+      let o = give_open b a i h in
+      let l = t.line in
+      let m = t.rows_all in
+      record {
+        within = (framed text p t.within (Gives b) e refl).room;
+        agents = t.agents;
+        rows = omega arith;
+        rows_all = omega arith;
+        line = omega arith;
+        told = t.told ∙ given text p t.within n a i b e h;
+      }
+
+  -- the line is out of its place
+  pub misopened : (b : ℕ) → line_at text p ≡ Opens b → may_open b a i ≡ false → told 3 n ≡ in_place 1 0 0 (frames_of text)
+  misopened b e h = sym (t.told ∙ opened_not text p t.within n a i b e h)
+
+  pub misgiven : (b : ℕ) → line_at text p ≡ Gives b → may_give b a i ≡ false → told 3 n ≡ in_place 1 0 0 (frames_of text)
+  misgiven b e h = sym (t.told ∙ given_not text p t.within n a i b e h)
+
+  pub misended : line_at text p ≡ Ends → i ≤ 0 → told 3 n ≡ in_place 1 0 0 (frames_of text)
+  misended e h = sym (t.told ∙ ended_early text p t.within n a i e (omega arith))
+
+  pub reached_end : length text ≤ p → told 3 n ≡ in_place 1 0 0 (frames_of text)
+  reached_end h = sym (t.told ∙ stopped text p t.within n a i h)
 
 -- ---- the rows that come next
 

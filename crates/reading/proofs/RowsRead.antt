@@ -1,5 +1,5 @@
 -- Replies 4 to 6 over a text whose lines are in their places, a line at a time. Assumes nothing.
-use mathlib.Core.Path.{◌≡◌, refl, ap, ◌∙◌}
+use mathlib.Core.Path.{◌≡◌, refl, sym, ap, ◌∙◌}
 use mathlib.Core.Bool.{false}
 use mathlib.Core.List.{List, [], ◌∷◌}
 use Prim.Native.Nat.{ℕ, zero, suc, ◌+◌, ◌≤◌, ◌<◌}
@@ -8,6 +8,7 @@ use lib.ListN.{length, drop}
 use Rattle.tables.specs.Frames.{Frame, opens, gives, ends, malformed, frames_of}
 use Rattle.tables.specs.Heads.{head_line, line_at, words_at}
 use Rattle.tables.specs.Rows.{row_reply}
+use Rattle.tables.specs.declared.Row.{Row}
 use Rattle.reading.specs.Reader.{told, in_place, rows_next, row_in, rows_good}
 use Rattle.tables.specs.declared.frames.Line.TheVariants.{Opens, Gives}
 use Rattle.tables.proofs.Heads.{Framed, framed, full, no_frames}
@@ -27,6 +28,10 @@ first_turn text h =
     let q = placed_first (frames_of text) h in
     let z = rows_none (frames_of text) 1 0 q in
     record { within = omega arith; agent = 0; placed = q; count = omega arith; told = refl }
+
+-- a line's reply, by the words that were read of it
+pub line_replies : {words ws : List ℕ} {r : Row} {k : ℕ} (i c : ℕ) → words ≡ ws → r ≡ row_in words → k ≡ row_reply r i c → row_reply (row_in ws) i c ≡ k
+line_replies i c w r k = (λ j. row_reply (row_in (sym w j)) i c) ∙ (λ j. row_reply (sym r j) i c) ∙ sym k
 
 -- what one frame does
 module _ (n c i b : ℕ) (ws : List ℕ) (fs : List Frame) where
@@ -48,9 +53,6 @@ unfolding rows_good
 good_end n c i fs = refl
 
 module _ {text : List ℕ} {p n c i : ℕ} (t : Turn text p n c i) where
-  pub few_lines : n ≤ 561
-  few_lines = let q = t.placed.line in let a = t.placed.agents in let r = t.placed.rows in omega arith
-
   module _ {b : ℕ} (o : line_at text p ≡ Opens b) where
     pub opens_line : Framed text p (opens b (words_at text p))
     opens_line = framed text p t.within (Opens b) o refl

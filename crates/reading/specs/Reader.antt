@@ -1,17 +1,30 @@
 -- The reader of frames: replies 2, 18, 19 and 3 with their line, then 4 to 6, then 7, and the table's words. Assumes nothing.
-use Rattle.std.specs.Prelude.{Bool, true, false, not, ◌&&◌, List, [], ◌∷◌, ℕ, zero, suc, ◌+◌, ◌-◌, ltb, leb, eqb, get_or, set, replicate}
+use Rattle.std.specs.Prelude.{Bool, true, false, not, ◌&&◌, List, [], ◌∷◌, Result, Ok, Err, ℕ, zero, suc, ◌+◌, ◌-◌, ltb, leb, eqb, get_or, set, replicate}
 use Rattle.std.proofs.lemmas.List.Edits.{sets}
 use Rattle.tables.specs.Basics.{first, ◌⇒◌, Rule}
 use Rattle.tables.specs.Faults.{fault_reply}
 use Rattle.tables.specs.Frames.{Frame, opens, gives, ends, malformed}
 use Rattle.tables.specs.Layout.{agents, rows, row_of, agents_place, count_place, start_place, row_place, table_words}
+use Rattle.tables.specs.Replies.{number_of}
 use Rattle.tables.specs.Rows.{row_reply}
 use Rattle.tables.specs.Table.{climbs}
 use Rattle.tables.specs.declared.Row.{Row}
+use Rattle.tables.specs.declared.replies.Refusal.{Refusal}
+use Rattle.reading.specs.declared.Refused.{Refused}
 use Rattle.reading.specs.declared.Told.{Told}
 
 abbrev pub told : ℕ → ℕ → Told
 told r n = record { reply = r; line = n }
+
+-- what C is told of a call that may refuse: 0 and no line where it is accepted, else the number of the refusal with its line
+abbrev pub told_of : Result Unit Refused → Told
+told_of (Ok _) = told 0 0
+told_of (Err e) = told (number_of e.refusal) e.line
+
+-- what is told of an answer to line n
+abbrev pub told_at : ℕ → Result Unit Refusal → Told
+told_at n (Ok _) = told 0 0
+told_at n (Err r) = told (number_of r) n
 
 abbrev pub none_left : List Frame → Bool
 none_left [] = true

@@ -1,10 +1,6 @@
 -- `rows_climb` meets its contract. The loop holds what is left to be told: of the rows from row i on. Assumes nothing.
-use Prim.Native.Nat.{◌≤◌, ◌-◌}
 use Rattle.reading.proofs.Climbs.{RowsLeft}
 use Rattle.reading.proofs.climbing.rows_climb.Given as goal
 
 abbrev pub invariant-loop-i : goal.invariant-loop-i
-invariant-loop-i l = RowsLeft l.table l.n l.a l.c l.i × (l.i ≤ l.c)
-
-abbrev pub decreases-loop-i : goal.decreases-loop-i
-decreases-loop-i l = l.c - l.i
+invariant-loop-i l = RowsLeft l.table l.n l.a l.c l.i
