@@ -1,11 +1,10 @@
 -- What is read after an accepted step: the clock, the agents, the marks and values, and that every other word is as before. Assumes nothing.
-use Rattle.std.proofs.Common.{◌≡◌, ℕ, ◌+◌, ◌%◌, ◌^◌, ◌<◌, Bool, true, false, cond, eqb, ◌≢◌, List, length, get_or, take, drop, set, refl, ap, ◌∙◌, arith, length-drop, length-set, length-take, get_or-set_other, get_or-set_same, eq-eqb, ne_eqb}
+use Rattle.std.proofs.Common.{◌≡◌, ℕ, ◌+◌, ◌%◌, ◌^◌, ◌<◌, Bool, true, false, cond, eqb, ◌≢◌, List, length, get_or, take, drop, set, refl, ap, ◌∙◌, arith, length-drop, length-set, length-take, get_or-set_other, get_or-set_same, eq-eqb, ne_eqb, Option, None, Some}
 use lib.Count.{ones_in, count_trailing_zeros}
 use lib.Seq.{length-sets}
 use Rattle.tables.specs.declared.Row.{Row}
 use Rattle.choices.specs.declared.Agent.{Agent}
-use Rattle.choices.specs.declared.Best.{Best}
-use Rattle.choices.specs.declared.Best.TheVariants.{Nothing, Message}
+use Rattle.choices.specs.declared.Message.{Message}
 use Rattle.choices.specs.State.{clock, pos, mark, value, agent_at, pool, pos_place, reg_place, mark_place, value_place}
 use Rattle.choices.specs.Messages.{best}
 use Rattle.choices.specs.Effect.{after, receive, go_to, put}
@@ -18,30 +17,30 @@ use Rattle.choices.proofs.Lists.{part_same, part_sets}
 -- ---- a row's effect on its agent
 
 -- the value of the message that a RECV takes, where it takes one
-abbrev pub Carries : (ℕ → Type 0) → Best → Type 0
-Carries W Nothing = Unit
-Carries W (Message l b i v) = W v
+abbrev pub Carries : (ℕ → Type 0) → Option Message → Type 0
+Carries W None = Unit
+Carries W (Some m) = W m.value
 
 -- a row only puts a value into a register, one of those of which W is shown here, or goes on; where to is `after_goes` in Onward
 module _ (P : Agent → Type 0) (W : ℕ → Type 0) (r : Row) (s : Agent) (puts : (x v : ℕ) → W v → P (put x v s)) (goes : (p : ℕ) → P (go_to p s))
     (k : W r.k) (remainder : (n : ℕ) → W (n % 2 ^ 32)) (ones : (y : ℕ) → W (ones_in 32 y)) (low : (y : ℕ) → W (count_trailing_zeros 32 y)) where
-  receives : (m : Best) → Carries W m → P (receive r m s)
+  receives : (m : Option Message) → Carries W m → P (receive r m s)
   unfolding receive
-  receives Nothing c = goes (s.pos + 1 + r.n)
-  receives (Message l b i v) c = puts r.x v c
+  receives None c = goes (s.pos + 1 + r.n)
+  receives (Some m) c = puts r.x m.value c
 
-  pub after_made : (m : Best) → Carries W m → P (after r m s)
+  pub after_made : (m : Option Message) → Carries W m → P (after r m s)
   unfolding after
   after_made m c = search (either P, puts, goes, receives, k, remainder, ones, low, c) depth 14
 
-pub after_four : (r : Row) (m : Best) (s : Agent) → length s.regs ≡ 4 → length (after r m s).regs ≡ 4
+pub after_four : (r : Row) (m : Option Message) (s : Agent) → length s.regs ≡ 4 → length (after r m s).regs ≡ 4
 after_four r m s four =
     after_made (λ g. length g.regs ≡ 4) (λ v. Unit) r s (λ x v t. length-set s.regs x v ∙ four) (λ p. four) tt (λ n. tt) (λ y. tt) (λ y. tt) m (any m)
   where
     -- whatever the value
-    any : (m : Best) → Carries (λ v. Unit) m
-    any Nothing = tt
-    any (Message l b i v) = tt
+    any : (m : Option Message) → Carries (λ v. Unit) m
+    any None = tt
+    any (Some m) = tt
 
 -- ---- the words after a step
 

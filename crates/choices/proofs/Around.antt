@@ -1,11 +1,12 @@
 -- The words of a state with others in the places of the registers: what is read there, and what is stored around them. Assumes nothing.
-use Rattle.std.proofs.Common.{◌≡◌, ℕ, zero, suc, ◌+◌, ◌-◌, ◌*◌, ◌/◌, ◌%◌, ◌<◌, ◌≤◌, List, [], ◌∷◌, ◌++◌, length, get_or, take, drop, set, sym, refl, ap, ◌∙◌, le_of_eq, add-one, arith, length-append, length-drop, length-set, length-take, get_or-drop, take_all, drop-cons, get_or-set_other, get_or-take, get_or-set_same, ext_get_or}
+use Rattle.std.proofs.Common.{◌≡◌, ℕ, zero, suc, ◌+◌, ◌-◌, ◌<◌, ◌≤◌, List, [], ◌∷◌, ◌++◌, length, get_or, take, drop, set, sym, refl, ap, ◌∙◌, le_of_eq, add-one, arith, length-append, length-drop, length-set, length-take, get_or-drop, take_all, drop-cons, get_or-set_other, get_or-take, get_or-set_same, ext_get_or}
 use native.Mathlib.Decide.{dec_lt, ℕ_discrete}
 use lib.ListN.{get_or-append}
 use lib.Seq.{sets, length-sets, set_at, append_snoc, get_or_at, paste, paste-suc}
 use Rattle.choices.specs.Registers.{around, listed, register, with_regs}
 use Rattle.tables.proofs.Stored.{get_or-sets_other}
-use Rattle.choices.proofs.Lists.{get_or-right, get_d_part}
+use lib.Seq.{get_or-append_right}
+use Rattle.choices.proofs.Lists.{get_d_part}
 
 -- ---- a list given by its elements
 
@@ -57,13 +58,13 @@ module _ (ws m : List ℕ) (long : 81 ≤ length ws) (full : length m ≡ 64) wh
   unfolding around
   around_mid j l h =
       get_or-append (take 17 ws ++ m) (drop 81 ws) 0 j (omega (arith, front_length))
-      ∙ get_or-right (take 17 ws) m j (omega (arith, low_length))
+      ∙ get_or-append_right (take 17 ws) m j 0 (omega (arith, low_length))
       ∙ ap (λ (n : ℕ). get_or m (j - n) 0) low_length
 
   pub around_high : (j : ℕ) → 81 ≤ j → get_or (around ws m) j 0 ≡ get_or ws j 0
   unfolding around
   around_high j l =
-      get_or-right (take 17 ws ++ m) (drop 81 ws) j (omega (arith, front_length))
+      get_or-append_right (take 17 ws ++ m) (drop 81 ws) j 0 (omega (arith, front_length))
       ∙ get_or-drop 81 ws (j - length (take 17 ws ++ m)) 0
       ∙ ap (λ (n : ℕ). get_or ws n 0) (omega (arith, front_length))
 
@@ -122,37 +123,6 @@ around_sets ws m vs p long fm lo hi =
     (λ j l. around_high (sets ws p vs) m (omega arith) fm j l ∙ get_or-sets_other vs ws p j (λ i k d. omega arith))
 
 -- ---- registers read from a state, and stored into it
-
--- four words read one by one
-pub four_words_lem : (s : List ℕ) (at : ℕ) → at + 4 ≤ length s
-    → get_or s at 0 ∷ get_or s (at + 1) 0 ∷ get_or s (at + 2) 0 ∷ get_or s (at + 3) 0 ∷ [] ≡ take 4 (drop at s)
-four_words_lem s at h =
-    let e₁ : at + 1 ≡ suc at = omega arith in
-    let e₂ : at + 2 ≡ suc (suc at) = omega arith in
-    let e₃ : at + 3 ≡ suc (suc (suc at)) = omega arith in
-    rw (e₁, e₂, e₃, drop-cons s at 0 (omega arith), drop-cons s (suc at) 0 (omega arith), drop-cons s (suc (suc at)) 0 (omega arith), drop-cons s (suc (suc (suc at))) 0 (omega arith))
-
--- the registers of agent a that stand in a state
-abbrev pub registers_of : List ℕ → ℕ → List ℕ
-registers_of st a = take 4 (drop (17 + 4 * a) st)
-
--- those of all agents, put where they stand already
-pub loaded_own : (st : List ℕ) → 81 ≤ length st → with_regs st (listed (registers_of st) 16) ≡ st
-loaded_own st long = ap (around st) same ∙ around_own st long
-  where
-    same : listed (register (listed (registers_of st) 16)) 64 ≡ take 64 (drop 17 st)
-    same =
-        let g = listed (registers_of st) 16 in
-        let n : length (take 64 (drop 17 st)) ≡ 64 = simp (length-take, length-drop) (omega arith) in
-        let m = listed_length (register g) 64 in
-        ext_get_or 0 (listed (register g) 64) (take 64 (drop 17 st)) (m ∙ sym n) (λ j h.
-        let k : j < 64 = omega arith in
-        let e : 17 + 4 * (j / 4) + j % 4 ≡ 17 + j = omega arith in
-        listed_at (register g) 64 j 0 k
-        ∙ ap (λ (l : List ℕ). get_or l (j % 4) 0) (listed_at (registers_of st) 16 (j / 4) [] (omega arith))
-        ∙ get_d_part st 4 (17 + 4 * (j / 4)) (j % 4) (omega arith)
-        ∙ ap (λ (i : ℕ). get_or st i 0) e
-        ∙ sym (get_d_part st 64 17 j k))
 
 -- a register more stored
 pub stored_next : (st : List ℕ) (g : List (List ℕ)) (j : ℕ) (l : List ℕ) → l ≡ paste st 17 (listed (register g) 64) j → 81 ≤ length st → j < 64

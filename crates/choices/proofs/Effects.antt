@@ -1,10 +1,10 @@
 -- What a row does to its agent, by its op. Assumes nothing.
-use Rattle.std.proofs.Common.{◌≡◌, ℕ, zero, suc, ◌+◌, ◌-◌, ◌/◌, ◌%◌, ◌^◌, ◌<◌, get_or, ap, ◌∙◌, pow-suc, arith, ne_eqb}
+use Rattle.std.proofs.Common.{◌≡◌, ℕ, zero, suc, ◌+◌, ◌-◌, ◌/◌, ◌%◌, ◌^◌, ◌<◌, get_or, ap, ◌∙◌, pow-suc, arith, ne_eqb, Option}
 use lib.Arith.{lt-one}
 use lib.Count.{ones, ones_step, ones_in, count_trailing_zeros}
 use Rattle.tables.specs.declared.Row.{Row}
 use Rattle.choices.specs.declared.Agent.{Agent}
-use Rattle.choices.specs.declared.Best.{Best}
+use Rattle.choices.specs.declared.Message.{Message}
 use Rattle.choices.specs.Effect.{after, put, go_to, receive}
 
 -- the language's count of one bits is that of 32 bits
@@ -14,7 +14,7 @@ ones_of_word zero n h = ap ones (lt-one h)
 ones_of_word (suc d) n h = ones_step n ∙ ap (λ (x : ℕ). n % 2 + x) (ones_of_word d (n / 2) (omega (arith, pow-suc 2 d)))
 
 -- a local row, where its registers hold x and y
-module _ (r : Row) (x y : ℕ) (s : Agent) (m : Best) (hx : get_or s.regs r.x 0 ≡ x) (hy : get_or s.regs r.y 0 ≡ y) where
+module _ (r : Row) (x y : ℕ) (s : Agent) (m : Option Message) (hx : get_or s.regs r.x 0 ≡ x) (hy : get_or s.regs r.y 0 ≡ y) where
   pub after_set : r.op ≡ 0x00 → put r.x r.k s ≡ after r m s
   unfolding after
   after_set e = rw e
@@ -35,7 +35,7 @@ module _ (r : Row) (x y : ℕ) (s : Agent) (m : Best) (hx : get_or s.regs r.x 0 
   unfolding after
   after_low e = rw (← hy, e)
 
-module _ (r : Row) (m : Best) (s : Agent) where
+module _ (r : Row) (m : Option Message) (s : Agent) where
   abbrev x : ℕ
   x = get_or s.regs r.x 0
 

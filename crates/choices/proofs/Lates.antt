@@ -1,6 +1,9 @@
 -- The lates of the agents' current rows, in a list of their own: a time is in time where it is above none of them, the least of them is the deadline, and a step changes one.
 -- Assumes nothing.
-use Rattle.std.proofs.Common.{◌≡◌, ℕ, ◌+◌, ◌^◌, ◌<◌, ◌≤◌, true, not, ◌&&◌, ◌||◌, leb, ◌≢◌, List, length, get_or, set, sym, ap, ◌∙◌, arith, length-set, get_or-set_other, get_or-set_same, le-leb, leb-true}
+use Rattle.std.proofs.Common.{◌≡◌, ℕ, zero, suc, ◌+◌, min, take, add-one, ◌^◌, ◌<◌, ◌≤◌, true, not, ◌&&◌, ◌||◌, leb, ◌≢◌, List, length, get_or, set, sym, ap, ◌∙◌, arith, length-set, get_or-set_other, get_or-set_same, le-leb, leb-true}
+use Rattle.std.specs.List.{fold}
+use Rattle.std.proofs.lemmas.List.Sums.{fold-append}
+use Rattle.std.proofs.Math.Seq.{take-suc}
 use mathlib.Core.Bool.{and-false}
 use native.Mathlib.Decide.{dec_le, dec_lt, ℕ_discrete}
 use borrow.Author.Tests.{lt-leb}
@@ -46,6 +49,20 @@ module _ (ls : List ℕ) where
 
     pub deadline_kept : (e : ℕ) → d ≤ get_or ls n 0 → e ≡ d → Deadline ls (n + 1) e
     deadline_kept e l p t w = below_suc n _ ∙ ap (λ b. b && leb t (get_or ls n 0)) (h t w) ∙ leb_more t d (get_or ls n 0) l ∙ ap (leb t) (sym p)
+
+    deadline_next : Deadline ls (n + 1) (min d (get_or ls n 0))
+    deadline_next = go (dec_lt (get_or ls n 0) d)
+      where
+        go : Dec (get_or ls n 0 < d) → Deadline ls (n + 1) (min d (get_or ls n 0))
+        go (yes l) = deadline_new (min d (get_or ls n 0)) l (omega arith)
+        go (no l) = deadline_kept (min d (get_or ls n 0)) (omega arith) (omega arith)
+
+  -- the least of the first n lates is their deadline
+  pub deadline_least : (n : ℕ) → n ≤ length ls → Deadline ls n (fold (λ d l. min d l) no_late (take n ls))
+  deadline_least zero h = deadline_none
+  deadline_least (suc n) h =
+      let d : ℕ = fold (λ d l. min d l) no_late (take n ls) in
+      rw (take-suc ls n 0 (omega arith), fold-append {A = ℕ} {B = ℕ}, ← add-one n) (deadline_next n d (deadline_least n (omega arith)))
 
   -- a time not above one that is above none of the lates is above none
   pub above_none_lem : (d t : ℕ) → above_none ls d ≡ true → t ≤ d → above_none ls t ≡ true

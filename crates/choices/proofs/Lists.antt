@@ -1,6 +1,5 @@
 -- Parts of a list, told word by word. Assumes nothing.
-use Rattle.std.proofs.Common.{◌≡◌, ℕ, zero, suc, ◌+◌, ◌-◌, ◌<◌, ◌≤◌, List, [], ◌∷◌, ◌++◌, length, get_or, take, drop, sym, ◌∙◌, le_of_suc-le-suc, not-suc-le-zero, arith, length-drop, length-take, get_or-drop, get_or-take, ext_get_or}
-use native.Mathlib.Nat.{sub-zero, suc-sub-suc}
+use Rattle.std.proofs.Common.{◌≡◌, ℕ, ◌+◌, ◌<◌, ◌≤◌, List, length, get_or, take, drop, sym, ◌∙◌, arith, length-drop, length-take, get_or-drop, get_or-take, ext_get_or}
 use lib.Seq.{sets, length-sets}
 use Rattle.tables.proofs.Stored.{get_or-sets_same}
 
@@ -25,10 +24,3 @@ part_sets l vs n p e fit =
     let k : length (take n (drop p (sets l p vs))) ≡ n = simp (length-take, length-drop, length-sets) (omega arith) in
     ext_get_or 0 (take n (drop p (sets l p vs))) vs (k ∙ sym e) (λ i h.
     let b : i < n = omega arith in get_d_part (sets l p vs) n p i b ∙ get_or-sets_same vs l p i (omega arith) (omega arith))
-
--- ---- the end of a list after a beginning
-
-pub get_or-right : (xs ys : List ℕ) (n : ℕ) → length xs ≤ n → get_or (xs ++ ys) n 0 ≡ get_or ys (n - length xs) 0
-get_or-right [] ys n h = rw sub-zero
-get_or-right (x ∷ xs) ys zero h = absurd (not-suc-le-zero h)
-get_or-right (x ∷ xs) ys (suc n) h = rw suc-sub-suc (get_or-right xs ys n (le_of_suc-le-suc h))

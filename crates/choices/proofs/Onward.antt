@@ -1,5 +1,5 @@
 -- Where a row goes on: at one of the rows that it can go on to, whatever its agent holds and whatever message it takes. Assumes nothing.
-use Rattle.std.proofs.Common.{◌≡◌, ℕ, ◌+◌, ◌<◌, ◌≤◌, true, eqb, List, [], ◌∷◌, length, get_or, replicate, sym, refl, ap, ◌∙◌, subst, inl, inr, arith, ne_eqb}
+use Rattle.std.proofs.Common.{◌≡◌, ℕ, ◌+◌, ◌<◌, ◌≤◌, true, eqb, List, [], ◌∷◌, length, get_or, replicate, sym, refl, ap, ◌∙◌, subst, inl, inr, arith, ne_eqb, Option, None, Some}
 use native.Mathlib.Decide.{dec_lt, ℕ_discrete}
 use lib.ListN.{get_or-replicate}
 use Rattle.tables.specs.Basics.{OneOf}
@@ -12,8 +12,7 @@ use Rattle.tables.proofs.Families.{Plain}
 use Rattle.tables.proofs.Good.{late_bound, window_on}
 use Rattle.tables.proofs.Onward.{Onward, both, far, near, onward, rises}
 use Rattle.choices.specs.declared.Agent.{Agent}
-use Rattle.choices.specs.declared.Best.{Best}
-use Rattle.choices.specs.declared.Best.TheVariants.{Nothing, Message}
+use Rattle.choices.specs.declared.Message.{Message}
 use Rattle.choices.specs.State.{pos, agent_at, pool}
 use Rattle.choices.specs.Messages.{best}
 use Rattle.choices.specs.Effect.{after, receive}
@@ -24,7 +23,7 @@ use Rattle.choices.proofs.After.{accepted_pos}
 use Rattle.choices.proofs.Lates.{late_ended, late_row}
 use Rattle.choices.proofs.Effects.{after_skip, after_stay, after_jump, after_receive}
 
-module _ (r : Row) (m : Best) (s : Agent) where
+module _ (r : Row) (m : Option Message) (s : Agent) where
   abbrev next : ℕ
   next = s.pos + 1
 
@@ -46,10 +45,10 @@ module _ (r : Row) (m : Best) (s : Agent) where
   skips k (yes z) = inr (inl (ap (λ (g : Agent). g.pos) (sym (after_skip r m s k z))))
   skips k (no z) = inl (ap (λ (g : Agent). g.pos) (sym (after_stay r m s k z)))
 
-  received : (b : Best) → OneOf (receive r b s).pos (next ∷ (next + r.n) ∷ [])
+  received : (b : Option Message) → OneOf (receive r b s).pos (next ∷ (next + r.n) ∷ [])
   unfolding receive
-  received Nothing = inr (inl refl)
-  received (Message l b i v) = inl refl
+  received None = inr (inl refl)
+  received (Some m) = inl refl
 
   pub after_goes : OneOf (after r m s).pos (goes_on_to r s.pos)
   after_goes = go (goes_on_to r s.pos) (onward r s.pos)
@@ -64,7 +63,7 @@ module _ (r : Row) (m : Best) (s : Agent) where
 
 -- a way that row r takes an agent at p, to j
 abbrev Way : Row → (p j : ℕ) → Type 0
-Way r p j = (s : Agent) × (m : Best) × (s.pos ≡ p) × ((after r m s).pos ≡ j)
+Way r p j = (s : Agent) × (m : Option Message) × (s.pos ≡ p) × ((after r m s).pos ≡ j)
 
 pub way_taken : (r : Row) (p j : ℕ) → OneOf j (goes_on_to r p) → Way r p j
 unfolding receive
@@ -74,23 +73,26 @@ way_taken r p j one = go (goes_on_to r p) (onward r p) one
     holding : ℕ → Agent
     holding v = record { pos = p; regs = replicate (r.x + 1) v }
 
+    a_message : Message
+    a_message = record { late = 0; agent = 0; row = 0; value = 0 }
+
     held : (v : ℕ) → get_or (holding v).regs r.x 0 ≡ v
     held v = get_or-replicate (r.x + 1) r.x v 0 (omega arith)
 
     -- its way, by what the row makes of it
-    way : (v : ℕ) (m : Best) (g : Agent) → g ≡ after r m (holding v) → j ≡ g.pos → Way r p j
+    way : (v : ℕ) (m : Option Message) (g : Agent) → g ≡ after r m (holding v) → j ≡ g.pos → Way r p j
     way v m g made e = (holding v, m, refl, ap (λ (h : Agent). h.pos) (sym made) ∙ sym e)
 
     go : (js : List ℕ) → Onward r p js → OneOf j js → Way r p j
-    go js (both (inl k)) (inl e) = way 1 Nothing _ (after_stay r Nothing (holding 1) k (λ z. let h = held 1 in omega arith)) e
-    go js (both (inl k)) (inr (inl e)) = way 0 Nothing _ (after_skip r Nothing (holding 0) k (held 0)) e
+    go js (both (inl k)) (inl e) = way 1 None _ (after_stay r None (holding 1) k (λ z. let h = held 1 in omega arith)) e
+    go js (both (inl k)) (inr (inl e)) = way 0 None _ (after_skip r None (holding 0) k (held 0)) e
     go js (both (inl k)) (inr (inr none)) = absurd none
-    go js (both (inr v)) (inl e) = way 0 (Message 0 0 0 0) _ (after_receive r (Message 0 0 0 0) (holding 0) v) e
-    go js (both (inr v)) (inr (inl e)) = way 0 Nothing _ (after_receive r Nothing (holding 0) v) e
+    go js (both (inr v)) (inl e) = way 0 (Some a_message) _ (after_receive r (Some a_message) (holding 0) v) e
+    go js (both (inr v)) (inr (inl e)) = way 0 None _ (after_receive r None (holding 0) v) e
     go js (both (inr v)) (inr (inr none)) = absurd none
-    go js (far o) (inl e) = way 0 Nothing _ (after_jump r Nothing (holding 0) o) e
+    go js (far o) (inl e) = way 0 None _ (after_jump r None (holding 0) o) e
     go js (far o) (inr none) = absurd none
-    go js (near o) (inl e) = way 0 Nothing _ refl (e ∙ sym (goes_near r Nothing (holding 0) o))
+    go js (near o) (inl e) = way 0 None _ refl (e ∙ sym (goes_near r None (holding 0) o))
     go js (near o) (inr none) = absurd none
 
 -- ---- the agent of an accepted step

@@ -1,5 +1,5 @@
 -- Which agent can be run, and which is picked: the first of the least lates. Assumes nothing.
-use Rattle.std.proofs.Common.{◌≡◌, ℕ, ◌+◌, ◌<◌, ◌≤◌, Bool, true, false, not, ◌≢◌, ◌⊎◌, List, get_or, sym, refl, ap, ◌∙◌, inl, inr, arith}
+use Rattle.std.proofs.Common.{◌≡◌, ℕ, ◌+◌, ◌<◌, ◌≤◌, Bool, true, false, not, List, ◌≢◌, get_or, sym, refl, ap, ◌∙◌, arith}
 use mathlib.Core.Bool.{false≢true}
 use native.Mathlib.Decide.{dec_lt, ℕ_discrete}
 use Rattle.tables.specs.Layout.{agents, rows, row}
@@ -9,7 +9,7 @@ use Rattle.tables.proofs.Tests.{and_both}
 use Rattle.tables.proofs.Passed.{and_1, and_2, all_below_lem, not_all_below}
 use Rattle.tables.proofs.FirstBelow.{first_below_is, first_below_found}
 use Rattle.tables.proofs.Good.{few, table_facts, no_count, late_bound}
-use Rattle.choices.specs.State.{clock, pos}
+use Rattle.choices.specs.State.{pos}
 use Rattle.choices.specs.Fit.{unfinished, current, in_time}
 use Rattle.choices.specs.Step.{InTime, Allowed}
 use Rattle.choices.specs.Pick.{soonest, can_go, all_ended, has_least_late, picked_agent}
@@ -55,16 +55,9 @@ module _ (tb st : List ℕ) (a : ℕ) where
         late = in_time_lem tb st (soonest tb st a) (and_2 (unfinished tb st a) (in_time tb st (soonest tb st a)) h);
       }
 
-  -- the later of the two, where the position, the row and the clock were read as p, r and t
-  module _ (p t : ℕ) (r : Row) (ep : p ≡ pos st a) (er : r ≡ row tb a p) (et : t ≡ clock st) where
-    early_is : r.early ≡ (current tb st a).early
-    early_is = ap (λ (x : Row). x.early) er ∙ ap (λ (i : ℕ). (row tb a i).early) ep
-
-    pub early_later : t < r.early → r.early ≡ soonest tb st a
-    early_later h = omega (arith, early_is)
-
-    pub clock_later : r.early ≤ t → t ≡ soonest tb st a
-    clock_later h = omega (arith, early_is)
+  -- where the position and the row were read as p and r
+  pub early_is : (p : ℕ) (r : Row) → p ≡ pos st a → r ≡ row tb a p → r.early ≡ (current tb st a).early
+  early_is p r ep er = ap (λ (x : Row). x.early) er ∙ ap (λ (i : ℕ). (row tb a i).early) ep
 
 module _ (tb st : List ℕ) where
   pub all_ended_lem : ((b : ℕ) → b < agents tb → rows tb b ≤ pos st b) → all_ended tb st ≡ true
@@ -97,43 +90,33 @@ module _ (tb st : List ℕ) where
 
 -- ---- the first of the least lates
 
--- of the agents below b the one that is picked, and its late; 16 and none where all of them have ended
-abbrev FoundBelow : (ls : List ℕ) (b a least : ℕ) → Type 0
-FoundBelow ls b a least =
-    ((a ≡ 16) × (least ≡ no_late)) ⊎ ((a < b) × (get_or ls a 0 ≡ least) × (least < no_late) × ((j : ℕ) → j < a → least < get_or ls j 0))
-
+-- of the first b lates none is below least, and a is the first that has it, where there is one at all
 pub record FirstLeast (ls : List ℕ) (b a least : ℕ) : Type 0 where
   pub lowest : (j : ℕ) → j < b → least ≤ get_or ls j 0
-  pub found : FoundBelow ls b a least
+  pub bounded : least ≤ no_late
+  pub found : least < no_late → (a < b) × (get_or ls a 0 ≡ least) × ((j : ℕ) → j < a → least < get_or ls j 0)
 
-module _ (ls : List ℕ) where
-  pub least_none : FirstLeast ls 0 16 no_late
-  least_none = record { lowest = λ j h. absurd (omega arith); found = inl (refl, refl) }
+module _ (ls : List ℕ) (b a least : ℕ) (f : FirstLeast ls b a least) where
+  lowest_on : (least' : ℕ) → least' ≤ least → least' ≤ get_or ls b 0 → (j : ℕ) → j < b + 1 → least' ≤ get_or ls j 0
+  lowest_on least' u v j l = go (ℕ_discrete j b)
+    where
+      go : Dec (j ≡ b) → least' ≤ get_or ls j 0
+      go (yes e) = rw e v
+      go (no n) = omega (arith, f.lowest j (omega arith))
 
-  module _ (b a least : ℕ) (f : FirstLeast ls b a least) where
-    bounded : FoundBelow ls b a least → least ≤ no_late
-    bounded (inl (e, k)) = omega arith
-    bounded (inr (h, e, k, before)) = omega arith
+  pub least_new : (late a' least' : ℕ) → late ≡ get_or ls b 0 → late < least → a' ≡ b → least' ≡ late → FirstLeast ls (b + 1) a' least'
+  least_new late a' least' el h ea em = record {
+    lowest = lowest_on least' (omega arith) (omega arith);
+    bounded = omega (arith, f.bounded);
+    found = λ k. (omega arith, rw ea (sym el ∙ sym em), λ j l. omega (arith, f.lowest j (omega arith)));
+  }
 
-    lowest_on : (least' : ℕ) → least' ≤ least → least' ≤ get_or ls b 0 → (j : ℕ) → j < b + 1 → least' ≤ get_or ls j 0
-    lowest_on least' u v j l = go (ℕ_discrete j b)
-      where
-        go : Dec (j ≡ b) → least' ≤ get_or ls j 0
-        go (yes e) = rw e v
-        go (no n) = omega (arith, f.lowest j (omega arith))
-
-    pub least_new : (late a' least' : ℕ) → late ≡ get_or ls b 0 → late < least → a' ≡ b → least' ≡ late → FirstLeast ls (b + 1) a' least'
-    least_new late a' least' el h ea em = record {
-      lowest = lowest_on least' (omega arith) (omega arith);
-      found = inr (omega arith, (rw ea (sym el ∙ sym em)), omega (arith, bounded f.found), λ j l. omega (arith, f.lowest j (omega arith)));
-    }
-
-    pub least_kept : (late a' least' : ℕ) → late ≡ get_or ls b 0 → least ≤ late → a' ≡ a → least' ≡ least → FirstLeast ls (b + 1) a' least'
-    least_kept late a' least' el h ea em = record { lowest = lowest_on least' (omega arith) (omega arith); found = rw (ea, em) (further f.found) }
-      where
-        further : FoundBelow ls b a least → FoundBelow ls (b + 1) a least
-        further (inl x) = inl x
-        further (inr (h, e, k, before)) = inr (omega arith, e, k, before)
+  pub least_kept : (late a' least' : ℕ) → late ≡ get_or ls b 0 → least ≤ late → a' ≡ a → least' ≡ least → FirstLeast ls (b + 1) a' least'
+  least_kept late a' least' el h ea em = record {
+    lowest = lowest_on least' (omega arith) (omega arith);
+    bounded = omega (arith, f.bounded);
+    found = rw (ea, em) (λ k. let (q, e, before) = f.found k in (omega arith, e, before));
+  }
 
 module _ (tb st ls : List ℕ) (good : good_table tb ≡ true) (l : Lates tb st ls) where
   -- an agent's late is its row's where it is unfinished, which is below none
@@ -159,24 +142,17 @@ module _ (tb st ls : List ℕ) (good : good_table tb ≡ true) (l : Lates tb st 
 
   -- what the loop has found once all are passed
   module _ (a least : ℕ) (f : FirstLeast ls 16 a least) where
-    pub all_have_ended : a ≡ 16 → all_ended tb st ≡ true
-    all_have_ended e = go f.found
-      where
-        go : FoundBelow ls 16 a least → all_ended tb st ≡ true
-        go (inl (_, none)) = none_late (λ j h. omega (arith, f.lowest j h))
-        go (inr (h, _, _, _)) = absurd (omega arith)
+    pub all_have_ended : least ≡ no_late → all_ended tb st ≡ true
+    all_have_ended e = none_late (λ j h. omega (arith, f.lowest j h))
 
-    pub one_picked : a ≢ 16 → Picks tb st a
-    one_picked n = go f.found
-      where
-        go : FoundBelow ls 16 a least → Picks tb st a
-        go (inl (e, _)) = absurd (n e)
-        go (inr (h, e, k, before)) =
-            let (q, p) = some_late a h (omega arith) in
-            let late = (own_late a q p).0 in
-            record {
-              left = some_left tb st a q p;
-              agent = q;
-              unended = p;
-              is = sym (first_least tb st a q p (λ b x y. omega (arith, (own_late b x y).0, f.lowest b (omega (arith, few tb good)))) (λ b x y. omega (arith, before b x, (own_late b (omega arith) y).0)));
-            }
+    pub one_picked : least ≢ no_late → Picks tb st a
+    one_picked n =
+        let (h, e, before) = f.found (omega (arith, f.bounded)) in
+        let (q, p) = some_late a h (omega (arith, f.bounded)) in
+        let late = (own_late a q p).0 in
+        record {
+          left = some_left tb st a q p;
+          agent = q;
+          unended = p;
+          is = sym (first_least tb st a q p (λ b x y. omega (arith, (own_late b x y).0, f.lowest b (omega (arith, few tb good)))) (λ b x y. omega (arith, before b x, (own_late b (omega arith) y).0)));
+        }

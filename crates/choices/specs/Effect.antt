@@ -1,10 +1,9 @@
 -- What a row does to its agent: 01's table of rows, its last column. Assumes nothing.
-use Rattle.std.specs.Prelude.{ℕ, ◌+◌, ◌-◌, ◌%◌, ◌^◌, cond, ◌==◌, slice_index_or, slice_set}
+use Rattle.std.specs.Prelude.{ℕ, ◌+◌, ◌-◌, ◌%◌, ◌^◌, cond, Option, None, Some, ◌==◌, slice_index_or, slice_set}
 use Rattle.std.specs.Int.Count.{ones_in, count_trailing_zeros}
 use Rattle.tables.specs.declared.Row.{Row}
 use Rattle.choices.specs.declared.Agent.{Agent}
-use Rattle.choices.specs.declared.Best.{Best}
-use Rattle.choices.specs.declared.Best.TheVariants.{Nothing, Message}
+use Rattle.choices.specs.declared.Message.{Message}
 
 -- on at position p
 abbrev pub go_to : ℕ → Agent → Agent
@@ -15,12 +14,12 @@ abbrev pub put : (x v : ℕ) → Agent → Agent
 put x v s = record { pos = s.pos + 1; regs = slice_set s.regs x v }
 
 -- RECV x, k, n: "message found: x becomes its value, on at p+1; none: x stays, on at p+1+n"
-unfoldable pub receive : Row → Best → Agent → Agent
-receive r Nothing s = go_to (s.pos + 1 + r.n) s
-receive r (Message l b i v) s = put r.x v s
+unfoldable pub receive : Row → Option Message → Agent → Agent
+receive r None s = go_to (s.pos + 1 + r.n) s
+receive r (Some m) s = put r.x m.value s
 
 -- the agent after the row r, where m is the message that a RECV takes
-unfoldable pub after : Row → Best → Agent → Agent
+unfoldable pub after : Row → Option Message → Agent → Agent
 after r m s =
     let x = slice_index_or s.regs r.x 0 in
     let y = slice_index_or s.regs r.y 0 in

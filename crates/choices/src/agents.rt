@@ -1,109 +1,85 @@
 // What a row does to its agent: the agent's state goes in whole and comes back whole, by one method for each family of rows.
-ghost use Rattle.std.specs.Prelude.{◌≡◌, ◌<◌, ◌≤◌, slice_index};
-ghost use Rattle.choices.specs.Effect.{after, put};
+ghost use Rattle.std.specs.Prelude.{◌≡◌, ◌<◌, ◌≤◌, Option, slice_index};
+ghost use Rattle.choices.specs.Effect.{after, go_to, put};
 ghost use Rattle.choices.specs.declared.Agent.{Agent as State};
-ghost use Rattle.choices.specs.declared.Best.{Best as Message};
+ghost use Rattle.choices.specs.declared.Message.{Message};
 
-use crate::{Agent, Best};
+use crate::{Agent, Message};
 use tables::Row;
+use tables::rows::{ADD, JUMP, ONES, SET, SUB};
 
 // What a local row puts into its first register, where its registers hold x and y.
+#[tactic(auto, using(crate::proofs::Effects::ones_of_word), unfolding(crate::specs::Effect::after))]
 fn local_value(r: Row, x: u32, y: u32) -> u32
     requires { r.op ≤ 4 }
-    ensures { (s : State) (m : Message) → slice_index s.regs r.x ≡ x → slice_index s.regs r.y ≡ y → put r.x result s ≡ after r m s }
+    ensures { (s : State) (m : Option Message) → slice_index s.regs r.x ≡ x → slice_index s.regs r.y ≡ y → put r.x result s ≡ after r m s }
 {
-    if r.op == 0x00 {
-        return r.k;
+    match r.op {
+        SET => r.k,
+        ADD => x.wrapping_add(y),
+        SUB => x.wrapping_sub(y),
+        ONES => y.count_ones(),
+        _ => y.trailing_zeros(),
     }
-    if r.op == 0x01 {
-        return std::num::wrapping_add_u32(x, y);
-    }
-    if r.op == 0x02 {
-        return std::num::wrapping_sub_u32(x, y);
-    }
-    if r.op == 0x03 {
-        return u32::count_ones(y);
-    }
-    u32::trailing_zeros(y)
 }
 
 impl Agent {
+    // On at position p.
+    fn go_to(self, p: u32) -> Agent
+        ensures { result ≡ go_to p self }
+    {
+        Agent { pos: p, ..self }
+    }
+
+    // Register x becomes v, and on at p+1.
+    fn put(mut self, x: u32, v: u32) -> Agent
+        requires { (x ≤ 3) × (self.pos < 32) }
+        ensures { result ≡ put x v self }
+    {
+        self.regs[x as usize] = v;
+        self.pos += 1;
+        self
+    }
+
     // SET, ADD, SUB, ONES and LOW.
     pub fn local(self, r: Row) -> Agent
         requires { (r.op ≤ 4) × (r.x ≤ 3) × (r.y ≤ 3) × (self.pos < 32) }
-        ensures { (m : Message) → result ≡ after r m self }
+        ensures { (m : Option Message) → result ≡ after r m self }
     {
-        let mut regs = self.regs;
-        let x = r.x as usize;
-        let v = local_value(r, regs[x], regs[r.y as usize]);
-        regs[x] = v;
-        Agent {
-            pos: self.pos + 1,
-            regs,
-        }
+        let v = local_value(r, self.regs[r.x as usize], self.regs[r.y as usize]);
+        self.put(r.x, v)
     }
 
     // SKIP and JUMP.
+    #[tactic(auto, unfolding(crate::specs::Effect::after))]
     pub fn moved(self, r: Row) -> Agent
         requires { (0x10 ≤ r.op) × (r.op ≤ 0x11) × (r.x ≤ 3) × (r.n ≤ 31) × (self.pos < 32) }
-        ensures { (m : Message) → result ≡ after r m self }
+        ensures { (m : Option Message) → result ≡ after r m self }
     {
-        let regs = self.regs;
-        let x = regs[r.x as usize];
-        if r.op == 0x11 {
-            return Agent {
-                pos: self.pos + 1 + r.n,
-                regs,
-            };
+        if r.op == JUMP || self.regs[r.x as usize] == 0 {
+            return self.go_to(self.pos + 1 + r.n);
         }
-        if x == 0 {
-            return Agent {
-                pos: self.pos + 1 + r.n,
-                regs,
-            };
-        }
-        Agent {
-            pos: self.pos + 1,
-            regs,
-        }
+        self.go_to(self.pos + 1)
     }
 
     // SEND: the agent itself only goes on.
+    #[tactic(auto, unfolding(crate::specs::Effect::after))]
     pub fn sent(self, r: Row) -> Agent
         requires { (r.op ≡ 0x20) × (self.pos < 32) }
-        ensures { (m : Message) → result ≡ after r m self }
+        ensures { (m : Option Message) → result ≡ after r m self }
     {
-        let regs = self.regs;
-        Agent {
-            pos: self.pos + 1,
-            regs,
-        }
+        self.go_to(self.pos + 1)
     }
 
     // RECV, of the best message m.
-    pub fn received(self, r: Row, m: Best) -> Agent
+    #[tactic(auto, unfolding(crate::specs::Effect::after, crate::specs::Effect::receive))]
+    pub fn received(self, r: Row, m: Option<Message>) -> Agent
         requires { (r.op ≡ 0x30) × (r.x ≤ 3) × (r.n ≤ 31) × (self.pos < 32) }
         ensures { result ≡ after r m self }
     {
-        let mut regs = self.regs;
         match m {
-            Best::Nothing => Agent {
-                pos: self.pos + 1 + r.n,
-                regs,
-            },
-            Best::Message {
-                late: _,
-                agent: _,
-                row: _,
-                value,
-            } => {
-                let x = r.x as usize;
-                regs[x] = value;
-                Agent {
-                    pos: self.pos + 1,
-                    regs,
-                }
-            }
+            None => self.go_to(self.pos + 1 + r.n),
+            Some(message) => self.put(r.x, message.value),
         }
     }
 }

@@ -9,10 +9,11 @@ use crate::layout::position;
 use tables::layout::{MOST_AGENTS, row_count};
 use tables::rows::row_at;
 
-// The greatest word, which no time is above: the late of an agent that has ended.
-pub const NO_LATE: u32 = 4294967295;
+// The greatest word, which no time is above: the late of an agent that has ended, as in the definition `late_at`; an Option for each agent would be no least of sixteen words.
+pub const NO_LATE: u32 = u32::MAX;
 
 // The late of agent a's row p; none where p is its end.
+#[tactic(auto, unfolding(crate::specs::Lates::late_at))]
 pub fn late_at(table: &[u32], a: usize, p: u32) -> u32
     requires { (table_words ≤ length table.now) × (a < 16) × (rows table.now a ≤ 32) }
     ensures { result ≡ late_at table.now a p }
@@ -30,8 +31,8 @@ pub fn load_lates(table: &[u32], state: &[u32]) -> [u32; MOST_AGENTS]
     ensures { Lates table.now state.now result }
 {
     let mut lates = [0u32; MOST_AGENTS];
-    for a in 0..MOST_AGENTS {
-        lates[a] = late_at(table, a, position(state, a));
+    for (a, late) in lates.iter_mut().enumerate() {
+        *late = late_at(table, a, position(state, a));
     }
     lates
 }
@@ -41,18 +42,14 @@ pub fn deadline(lates: &[u32]) -> u32
     requires { length lates.now ≡ 16 }
     ensures { (t : ℕ) → t < 2 ^ 32 → above_none lates.now t ≡ nat_le t result }
 {
-    let mut d = NO_LATE;
-    for a in 0..MOST_AGENTS {
-        let late = lates[a];
-        if late < d {
-            d = late;
-        }
-    }
-    d
+    lates[..MOST_AGENTS]
+        .iter()
+        .fold(NO_LATE, |least, late| least.min(*late))
 }
 
 // A deadline by which the time t is told to be in time or not, where the last one was d: windows climb, so that a deadline only rises, and the lates are looked at only
 // where t is above it.
+#[tactic(auto, using(crate::proofs::Lates::above_none_lem))]
 pub fn deadline_for(lates: &[u32], d: u32, t: u32) -> u32
     requires { (length lates.now ≡ 16) × (above_none lates.now d ≡ true) }
     ensures { (above_none lates.now t ≡ nat_le t result) × (above_none lates.now result ≡ true) }

@@ -1,4 +1,5 @@
-// The words of a state: how many there are, and where each thing stands in them.
+// The words of a state: how many there are, and where each thing stands in them. Each place and each word has a function of its own, here and in tables' layout, though some are
+// alike but for a number: each says its own definition by its own name, which docs/STATEMENTS.md lists.
 ghost use Rattle.std.specs.Prelude.{◌≡◌, ◌<◌, ◌≤◌, length};
 ghost use Rattle.choices.specs.State as State;
 
@@ -54,7 +55,7 @@ pub fn mark_place(a: usize, i: usize) -> usize
     MARKS_AT + (MOST_ROWS * a + i)
 }
 
-// The mark of row i of agent a.
+// The mark of row i of agent a. (mark and value are one line each over their place, and one function of both would need the place as an argument.)
 pub fn mark(state: &[u32], a: usize, i: usize) -> u32
     requires { (State.state_words ≤ length state.now) × (a < 16) × (i < 32) }
     ensures { result ≡ State.mark state.now a i }

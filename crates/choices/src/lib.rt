@@ -17,14 +17,11 @@ pub struct Agent {
     pub regs: [u32; REGISTERS],
 }
 
-// The best message so far.
+// A message that was sent: the late and the place of the row that sent it, and its value.
 #[derive(Clone, Copy)]
-pub enum Best {
-    Nothing,
-    Message {
-        late: u32,
-        agent: usize,
-        row: usize,
-        value: u32,
-    },
+pub struct Message {
+    pub late: u32,
+    pub agent: usize,
+    pub row: usize,
+    pub value: u32,
 }

@@ -1,5 +1,5 @@
 // The choice that a caller is given, of a good table.
-ghost use Rattle.std.specs.Prelude.{◌≡◌, ◌<◌, ◌≤◌, true, ◌≢◌, length};
+ghost use Rattle.std.specs.Prelude.{◌≡◌, ◌<◌, ◌≤◌, true, MatchOption, length};
 ghost use Rattle.tables.specs.Layout.{table_words};
 ghost use Rattle.tables.specs.Table.{good_table};
 ghost use Rattle.choices.specs.State.{pos, state_words};
@@ -8,25 +8,27 @@ ghost use Rattle.choices.specs.Lates.{Picks};
 
 use crate::deadlines::{NO_LATE, load_lates};
 use crate::layout::{clock, position};
-use tables::layout::MOST_AGENTS;
 use tables::rows::row_at;
 
-// The unfinished agent of the least late, of equal lates the lowest number; 16 where all have ended.
-pub fn picked_agent(table: &[u32], state: &[u32]) -> usize
+// The unfinished agent of the least late, of equal lates the lowest number; none where all have ended.
+pub fn picked_agent(table: &[u32], state: &[u32]) -> Option<usize>
     requires { (length table.now ≡ table_words) × (length state.now ≡ state_words) × (good_table table.now ≡ true) }
-    ensures { (result ≡ 16 → Pick.all_ended table.now state.now ≡ true) × (result ≢ 16 → Picks table.now state.now result) }
+    ensures { MatchOption result (Pick.all_ended table.now state.now ≡ true) (λ a. Picks table.now state.now a) }
 {
     let lates = load_lates(table, state);
-    let mut a = MOST_AGENTS;
+    // No Option in the loop, which would keep its tag in each of the 16 turns (138 instructions in place of 94), and no `min_by_key`, which makes one too (141).
+    let mut first = 0;
     let mut least = NO_LATE;
-    for b in 0..MOST_AGENTS {
-        let late = lates[b];
+    for (a, &late) in lates.iter().enumerate() {
         if late < least {
             least = late;
-            a = b;
+            first = a;
         }
     }
-    a
+    if least == NO_LATE {
+        return None;
+    }
+    Some(first)
 }
 
 // The soonest that agent a's row may be run at.
@@ -35,9 +37,5 @@ pub fn soonest(table: &[u32], state: &[u32], a: usize) -> u32
     ensures { result ≡ Pick.soonest table.now state.now a }
 {
     let r = row_at(table, a, position(state, a) as usize);
-    let t = clock(state);
-    if t < r.early {
-        return r.early;
-    }
-    t
+    clock(state).max(r.early)
 }

@@ -1,7 +1,8 @@
-use Rattle.std.proofs.Common.{◌≡◌, ◌+◌, sym, refl, ap, ◌∙◌, add-one, arith, rules}
+use Rattle.std.proofs.Common.{◌≡◌, ◌+◌, Some, sym, refl, ap, ◌∙◌, add-one, arith, rules}
 use Rattle.choices.proofs.Looking.{none_taken, better_early, one_better, one_left}
 use Rattle.tables.specs.Layout.{agents}
 use Rattle.tables.specs.declared.Row.{Row}
+use Rattle.choices.specs.declared.Message.{Message}
 use Rattle.choices.specs.State.{pool}
 use Rattle.choices.specs.Messages.{look_rows, look_agents, best}
 use Rattle.choices.proofs.messages.find_best.Goals as goal
@@ -37,7 +38,7 @@ loop-i-preserved c =
       omega arith,
       elim j.branch [
         | then-is_better u ↦ one_better g.table.now (pool g.state.now) g.r o.b o.m l.i l.m l.least_of_next l.least l.invariant.2 j.m j.least_of_next j.least
-            (u.m-is ∙ u.message_at-m.ensures) (u.least_of_next-is ∙ ap (λ (x : Row). x.late + 1) u.row_at-sender.ensures) (u.least-is ∙ ap (λ (x : Row). x.late) u.row_at-sender.ensures) (sym u.if-is_better.true ∙ q)
+            (u.m-is ∙ ap (λ (x : Message). Some x) u.message_at.ensures) (u.least_of_next-is ∙ ap (λ (x : Row). x.late + 1) u.row_at-sender.ensures) (u.least-is ∙ ap (λ (x : Row). x.late) u.row_at-sender.ensures) (sym u.if-is_better.true ∙ q)
         | else-is_better u ↦ one_left g.table.now (pool g.state.now) g.r o.b o.m l.i l.m l.least_of_next l.least l.invariant.2 j.m j.least_of_next j.least
             u.m-is u.least_of_next-is u.least-is (sym u.if-is_better.false ∙ q)
       ],

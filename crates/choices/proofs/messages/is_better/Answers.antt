@@ -1,8 +1,8 @@
--- `is_better` meets its contract: the tests in their order. Assumes nothing.
+-- The first test, by the windows alone: a wrong one is told with values. Assumes nothing.
 use Rattle.std.proofs.Common.{ap, arith}
 use Rattle.tables.specs.declared.Row.{Row}
 use Rattle.choices.specs.State.{pool}
-use Rattle.choices.proofs.Looking.{too_late, too_low, not_sent, sent}
+use Rattle.choices.proofs.Looking.{too_late}
 use Rattle.choices.proofs.messages.is_better.Goals as goal
 
 pub returns-then-r-sender : goal.returns-then-r-sender
@@ -10,18 +10,3 @@ returns-then-r-sender c =
     let g = c.args in
     let e = ap (λ (x : Row). x.late) c.row_at-sender.ensures in
     too_late g.table.now (pool g.state.now) g.r g.b g.i g.least (omega arith)
-
-pub returns-then-sender-least : goal.returns-then-sender-least
-returns-then-sender-least c =
-    let g = c.args in
-    let e = ap (λ (x : Row). x.late) c.row_at-sender.ensures in
-    too_low g.table.now (pool g.state.now) g.r g.b g.i g.least (omega arith)
-
-pub returns-then-mark-ne1 : goal.returns-then-mark-ne1
-returns-then-mark-ne1 c = let g = c.args in not_sent g.table.now (pool g.state.now) g.r g.b g.i g.least (rw c.mark.ensures at c.if-mark-ne1.true)
-
-pub returns : goal.returns
-returns c =
-    let g = c.args in
-    let e = c.row_at-sender.ensures in
-    rw e (sent g.table.now (pool g.state.now) g.r g.b g.i g.least (rw e at c.if-sender-least.false) (rw e at c.if-r-sender.false) (rw c.mark.ensures at c.if-mark-ne1.false))

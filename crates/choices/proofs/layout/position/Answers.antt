@@ -1,6 +1,0 @@
--- `position` meets its contract: it reads the word at its place. Assumes nothing.
-use Rattle.std.proofs.Common.{ℕ, get_or, ap}
-use Rattle.choices.proofs.layout.position.Goals as goal
-
-pub returns : goal.returns
-returns c = ap (λ (k : ℕ). get_or c.args.state.now k 0) c.pos_place.ensures
