@@ -16,7 +16,8 @@ use Rattle.choices.specs.Effect.{after}
 use Rattle.choices.specs.Fit.{fits, current}
 use Rattle.choices.specs.Step.{choice_reply, accepted}
 use Rattle.choices.specs.declared.Agent.{Agent}
-use Rattle.choices.specs.declared.Best.{Best}
+use Rattle.std.specs.Prelude.{Option}
+use Rattle.choices.specs.declared.Message.{Message}
 use Rattle.executive.specs.Laws.{SameSeen}
 use Rattle.tables.proofs.Good.{few}
 use Rattle.choices.proofs.After.{next, accepted_self}
@@ -24,7 +25,7 @@ use Rattle.choices.proofs.Choice.{allowed}
 use Rattle.executive.proofs.Fitting.{Fits, fits_says}
 
 module _ (tb : List ℕ) (p q : Pool) (r : Row) (same : SameSeen tb (λ b. 32) p q r) where
-  look_same : (b i : ℕ) (m : Best) → b < agents tb → i < 32 → look tb p r b i m ≡ look tb q r b i m
+  look_same : (b i : ℕ) (m : Option Message) → b < agents tb → i < 32 → look tb p r b i m ≡ look tb q r b i m
   unfolding look
   look_same b i m hb hi = go (visible tb p r b i) refl
     where
@@ -32,7 +33,7 @@ module _ (tb : List ℕ) (p q : Pool) (r : Row) (same : SameSeen tb (λ b. 32) p
       go true e = rw (← same.seen b i hb hi, ← same.told b i hb hi e)
       go false e = rw (← same.seen b i hb hi, e)
 
-  rows_same : (b i : ℕ) (m : Best) → b < agents tb → i ≤ 32 → look_rows tb p r b i m ≡ look_rows tb q r b i m
+  rows_same : (b i : ℕ) (m : Option Message) → b < agents tb → i ≤ 32 → look_rows tb p r b i m ≡ look_rows tb q r b i m
   unfolding look_rows
   rows_same b zero m hb hi = refl
   rows_same b (suc i) m hb hi = look_same b i _ hb hi ∙ ap (look tb q r b i) (rows_same b i m hb (omega arith))
@@ -50,7 +51,7 @@ module _ (tb : List ℕ) (p q : Pool) (r : Row) (same : SameSeen tb (λ b. 32) p
 pub next_same : (tb st st' : List ℕ) (a : ℕ) → agent_at st a ≡ agent_at st' a → SameSeen tb (λ b. 32) (pool st) (pool st') (current tb st a)
     → next tb st a ≡ next tb st' a
 next_same tb st st' a e s =
-    ap (λ (m : Best). after (current tb st a) m (agent_at st a)) (best_same tb (pool st) (pool st') (current tb st a) s)
+    ap (λ (m : Option Message). after (current tb st a) m (agent_at st a)) (best_same tb (pool st) (pool st') (current tb st a) s)
     ∙ ap (λ (g : Agent). after (row tb a g.pos) (best tb (pool st') (row tb a g.pos)) g) e
 
 -- past an agent's rows nothing is visible in a state that fits

@@ -47,7 +47,7 @@ send_is_on r m s e = sym (after_send r m s e)
 
 pub receive_found : ReceiveFound
 unfolding receive
-receive_found l b i v r m s e h = sym (after_receive r m s e) ∙ rw h
+receive_found g r m s e h = sym (after_receive r m s e) ∙ rw h
 
 pub receive_none : ReceiveNone
 unfolding receive

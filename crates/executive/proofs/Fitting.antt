@@ -12,7 +12,8 @@ use borrow.Author.Tests.{leb-true, le-leb, eqb-true, eq-eqb}
 use Rattle.tables.specs.Basics.{every}
 use Rattle.tables.specs.Layout.{agents, rows, row}
 use Rattle.tables.specs.Table.{good_table}
-use Rattle.tables.proofs.Tests.{and_both, or_left, or_right}
+use Rattle.std.proofs.lemmas.Bool.{or_left, or_right}
+use Rattle.tables.proofs.Tests.{and_both}
 use Rattle.tables.proofs.Passed.{and_1, and_2, each, below, all_below_lem}
 use Rattle.choices.specs.State.{clock, pos, mark, value, pos_place, reg_place, mark_place, value_place}
 use Rattle.choices.specs.Fit.{fits, good_places, good_mark}

@@ -15,4 +15,5 @@ pub mod Laws
 pub mod Outcomes
 pub mod PickedBy
 pub mod RunOn
-pub mod Marks
+pub mod Refusals
+pub mod Fours

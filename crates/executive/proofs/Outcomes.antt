@@ -7,6 +7,14 @@ use native.Mathlib.Omega.{arith}
 use lib.Dec.{eqb}
 use lib.ListN.{take-append-drop}
 use borrow.Author.Tests.{eq-eqb, ne_eqb}
+use Rattle.std.specs.Prelude.{Result, Ok, Err}
+use Rattle.std.specs.Result.{IsErrAnd}
+use Rattle.tables.specs.Replies.{number_of, reply}
+use Rattle.tables.specs.declared.replies.Refusal.{Refusal}
+use Rattle.executive.specs.declared.Stopped.{Stopped}
+use Rattle.executive.specs.Replies.{ran_of}
+use Rattle.tables.proofs.Refusals.{no_zero}
+use Rattle.executive.proofs.Refusals.{given_back}
 use Rattle.choices.specs.State.{start_words}
 use Rattle.choices.specs.Step.{choice_reply, accepted}
 use Rattle.executive.specs.Run.{RunOutcome, ended, run_from}
@@ -21,9 +29,11 @@ refused zero ws st n = absurd (n refl)
 refused (suc r) ws st n = refl
 
 module _ (tb st : List ℕ) where
-  pub start_stops : (r : ℕ) → r ≡ start_reply tb st → (r ≡ 0 → ⊥) → outcome r st ≡ start_into tb st
+  pub start_stops : (x : Refusal) (r : Result Unit Refusal) → IsErrAnd r (λ e. e ≡ x) → number_of x ≡ start_reply tb st → outcome (reply r) st ≡ start_into tb st
   unfolding start_into
-  start_stops r e n = refused r (start_words (table_part tb) ++ past_state st) st n ∙ ap (λ (k : ℕ). done k (start_words (table_part tb) ++ past_state st) st) e
+  start_stops x r h k =
+      let g = given_back x r h k in
+      refused (reply r) (start_words (table_part tb) ++ past_state st) st g.1 ∙ ap (λ (k : ℕ). done k (start_words (table_part tb) ++ past_state st) st) g.0
 
   pub start_goes : 0 ≡ start_reply tb st → outcome 0 (start_words (table_part tb) ++ past_state st) ≡ start_into tb st
   unfolding start_into
@@ -37,9 +47,9 @@ module _ (tb st : List ℕ) (a t : ℕ) where
   abbrev stepped : List ℕ
   stepped = accepted (table_part tb) (state_part st) a t ++ past_state st
 
-  pub step_stops : (r : ℕ) → r ≡ step_reply tb st a t → (r ≡ 0 → ⊥) → outcome r st ≡ step_into tb st a t
+  pub step_stops : (x : Refusal) (r : Result Unit Refusal) → IsErrAnd r (λ e. e ≡ x) → number_of x ≡ step_reply tb st a t → outcome (reply r) st ≡ step_into tb st a t
   unfolding step_into
-  step_stops r e n = refused r stepped st n ∙ ap (λ (k : ℕ). done k stepped st) e
+  step_stops x r h k = let g = given_back x r h k in refused (reply r) stepped st g.1 ∙ ap (λ (k : ℕ). done k stepped st) g.0
 
   -- where the reply is the choice's, and the words are those after the choice
   pub step_ends : (r : ℕ) (ws : List ℕ) → r ≡ step_reply tb st a t → r ≡ choice_reply (table_part tb) (state_part st) a t
@@ -67,6 +77,11 @@ module _ (tb st cs : List ℕ) where
   unfolding run_into ran
   run_stops zero e n = absurd (n refl)
   run_stops (suc r) e n = ap ran e
+
+  pub run_refused : (x : Refusal) (r : Result ℕ Stopped) → IsErrAnd r (λ s. s ≡ record { refusal = x; count = 0 }) → number_of x ≡ run_refusal tb st cs
+      → ended (ran_of r).reply (ran_of r).count st ≡ run_into tb st cs
+  run_refused x (Ok _) h k = absurd h
+  run_refused x (Err s) h k = ap (λ (q : Stopped). ended (number_of q.refusal) q.count st) h ∙ run_stops (number_of x) k (no_zero x)
 
   pub run_ends : (r n : ℕ) (ws : List ℕ) → 0 ≡ run_refusal tb st cs → ended r n ws ≡ run_from (table_part tb) (start_words (table_part tb)) 0 cs
       → ended r n (ws ++ past_state st) ≡ run_into tb st cs

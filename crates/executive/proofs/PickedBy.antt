@@ -6,6 +6,13 @@ use mathlib.Core.Bool.{Bool, true, false, cond, true≢false}
 use Prim.Native.Nat.{ℕ, zero, suc, ◌<◌}
 use native.Mathlib.Decide.{dec_lt}
 use native.Mathlib.Omega.{arith}
+use Rattle.std.specs.Prelude.{Result, Ok, Err}
+use Rattle.std.specs.Result.{IsErrAnd}
+use Rattle.tables.specs.Replies.{number_of}
+use Rattle.tables.specs.declared.replies.Refusal.{Refusal}
+use Rattle.executive.specs.declared.Choice.{Choice}
+use Rattle.executive.specs.Replies.{picked_of}
+use Rattle.tables.proofs.Refusals.{no_zero}
 use Rattle.tables.specs.Layout.{agents}
 use Rattle.tables.proofs.FirstBelow.{first_below_before, first_below_holds}
 use Rattle.choices.specs.Fit.{current}
@@ -38,6 +45,11 @@ module _ (tb st : List ℕ) where
   pub pick_stops : (r : ℕ) → pick_reply tb st ≡ r → (r ≡ 0 → ⊥) → (s a t : ℕ) → (s ≡ r) × (a ≡ 0) × (t ≡ 0) → picked s a t ≡ pick_from tb st
   pick_stops zero h n s a t e = absurd (n refl)
   pick_stops (suc r) h n s a t (x, y, z) = (λ i. picked (x i) (y i) (z i)) ∙ sym (picked_by (suc r) h)
+
+  pub pick_refused : (x : Refusal) (r : Result Choice Refusal) → IsErrAnd r (λ e. e ≡ x) → number_of x ≡ pick_reply tb st
+      → picked (picked_of r).reply (picked_of r).agent (picked_of r).time ≡ pick_from tb st
+  pick_refused x (Ok _) h k = absurd h
+  pick_refused x (Err e) h k = pick_stops (number_of x) (sym k) (no_zero x) (number_of e) 0 0 (ap number_of h, refl, refl)
 
   pub pick_goes : pick_reply tb st ≡ 0 → (a t : ℕ) → a ≡ agent → t ≡ soonest (table_part tb) (state_part st) a → picked 0 a t ≡ pick_from tb st
   pick_goes h a t x y = ap₂ (picked 0) x (y ∙ ap (soonest (table_part tb) (state_part st)) x) ∙ sym (picked_by 0 h)

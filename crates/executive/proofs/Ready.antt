@@ -64,6 +64,10 @@ module _ (tb : List ℕ) where
     pub good : good_table (table_part tb) ≡ true
     pub fit : fits (table_part tb) (state_part st) ≡ true
 
+  pub all_ready : (st : List ℕ) → (table_words ≤ length tb) × (state_words ≤ length st) × (good_table (table_part tb) ≡ true) × (fits (table_part tb) (state_part st) ≡ true)
+      → Ready st
+  all_ready st r = record { table = r.0; state = r.1; good = r.2; fit = r.3 }
+
   -- they are those that are refused with nothing
   pub words_zero : (st : List ℕ) → Ready st → words_reply tb st ≡ 0
   unfolding words_reply first

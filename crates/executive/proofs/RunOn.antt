@@ -1,14 +1,14 @@
 -- A run worked out with the registers and the lates beside the state: what one choice makes of what is left to run, and of the lates. Assumes nothing.
 use mathlib.Core.Path.{◌≡◌, refl, sym, ap, ap₂, ◌∙◌}
 use mathlib.Core.Bool.{true, cond}
-use mathlib.Core.List.{List, [], ◌∷◌}
-use Prim.Native.Nat.{ℕ, zero, suc, ◌+◌, ◌/◌, ◌%◌, ◌≤◌, ◌<◌}
+use mathlib.Core.List.{List, [], ◌∷◌, ◌++◌}
+use Prim.Native.Nat.{ℕ, zero, suc, ◌+◌, ◌/◌, ◌%◌, ◌*◌, ◌≤◌, ◌<◌}
 use native.Mathlib.Decide.{ℕ_discrete}
 use native.Mathlib.Omega.{arith}
 use borrow.Author.Tests.{eq-eqb, ne_eqb}
 use lib.Dec.{eqb}
-use lib.ListN.{length, take, drop, get_or, set, length-take, length-drop, length-set, drop_of_length-le}
-use lib.Seq.{drop-cons, get_or-set_same, get_or-set_other, ext_get_or}
+use lib.ListN.{length, take, drop, get_or, set, length-take, length-drop}
+use lib.Seq.{get_or-set_same, get_or-set_other, ext_get_or}
 use Rattle.tables.specs.Table.{good_table}
 use Rattle.choices.specs.declared.Agent.{Agent}
 use Rattle.choices.specs.State.{pos, agent_at, pos_place, reg_place}
@@ -23,32 +23,29 @@ use Rattle.choices.proofs.Lates.{late_changed, still_above_none}
 use Rattle.choices.proofs.Onward.{late_rises}
 use Rattle.choices.proofs.Choice.{allowed}
 use Rattle.executive.proofs.Fitting.{fits_says}
-use Rattle.executive.proofs.Outcomes.{words_after}
+use Rattle.std.proofs.Common.{Result, Ok, Err}
+use Rattle.std.specs.Result.{IsErrAnd}
+use Rattle.tables.specs.declared.replies.Refusal.{Refusal}
+use Rattle.tables.specs.Replies.{number_of}
+use Rattle.executive.specs.InTurn.{Takes}
+use Rattle.executive.specs.Calls.{outcome, table_part, state_part, past_state, step_into}
+use Rattle.executive.proofs.Outcomes.{words_after, step_ends}
+use Rattle.executive.proofs.Ready.{Ready, ready_reply}
 use Rattle.executive.proofs.Runs.{run_go, run_stop, count_within}
 use Rattle.choices.proofs.Around.{listed_length, listed_at, around_length, around_low, around_own, around_around}
-use Rattle.choices.proofs.Choosing.{whole_length, whole_low, whole_register, chosen_low}
+use Rattle.choices.proofs.Choosing.{whole_length, whole_low, whole_register}
 
 -- ---- the choices left
 
-module _ (cs : List ℕ) (i : ℕ) where
-  pub two : i + 1 < length cs → drop i cs ≡ get_or cs i 0 ∷ get_or cs (i + 1) 0 ∷ drop (i + 2) cs
-  two h =
-      let e₁ : i + 1 ≡ suc i = omega arith in
-      let e₂ : i + 2 ≡ suc (suc i) = omega arith in
-      rw (e₁, e₂, drop-cons cs i 0 (omega arith), drop-cons cs (suc i) 0 (omega arith))
-
-  pub none_left_lem : (tb st : List ℕ) (n : ℕ) → length cs ≤ i → run_from tb st n (drop i cs) ≡ ended 0 n st
-  unfolding run_from
-  none_left_lem tb st n h = rw (drop_of_length-le cs {i = i} h)
+pub none_left_lem : (tb st : List ℕ) (n : ℕ) (cs : List ℕ) → length cs < 2 → ended 0 n st ≡ run_from tb st n cs
+unfolding run_from
+none_left_lem tb st n [] h = refl
+none_left_lem tb st n (a ∷ []) h = refl
+none_left_lem tb st n (a ∷ t ∷ cs) h = absurd (omega arith)
 
 -- ---- one choice
 
 module _ (tb st : List ℕ) (g : List (List ℕ)) (a t : ℕ) where
-  -- a refusal ends the run
-  pub refused_run : (r : ℕ) → choice_reply tb (with_regs st g) a t ≡ r → (r ≡ 0 → ⊥) → (n : ℕ) (cs : List ℕ) → run_from tb (with_regs st g) n (a ∷ t ∷ cs) ≡ ended r n (with_regs st g)
-  refused_run zero h k n cs = absurd (k refl)
-  refused_run (suc r) h k n cs = run_stop tb (with_regs st g) n a t cs r h
-
   -- an accepted choice goes on with its agent's registers put in
   module _ (q : Agent) (ws : List ℕ) (e : acted q ws ≡ act_into tb st g a t) where
     abbrev after : List ℕ
@@ -122,9 +119,6 @@ module _ (tb st : List ℕ) (g : List (List ℕ)) (a t : ℕ) where
           let is = e ∙ ap (λ (s : Agent). late_at tb a s.pos) agent_is in
           still_above_none ls d a late (omega (arith, l.size)) h (λ k. omega arith)
 
-      pub accepted_run : choice_reply tb (with_regs st g) a t ≡ 0 → (n : ℕ) (cs : List ℕ) → run_from tb (with_regs st g) n (a ∷ t ∷ cs) ≡ run_from tb (with_regs ws (set g a q.regs)) (n + 1) cs
-      accepted_run h n cs = run_go tb (with_regs st g) n a t cs h ∙ ap (λ (l : List ℕ). run_from tb l (n + 1) cs) (sym whole_after)
-
 -- ---- one choice alone
 
 module _ (tb st : List ℕ) (a t : ℕ) where
@@ -132,7 +126,7 @@ module _ (tb st : List ℕ) (a t : ℕ) where
   alone_reply = go (choice_reply tb st a t) refl
     where
       go : (r : ℕ) → choice_reply tb st a t ≡ r → (run_from tb st 0 (a ∷ t ∷ [])).reply ≡ r
-      go zero h = ap (λ (o : RunOutcome). o.reply) (run_go tb st 0 a t [] h ∙ none_left_lem [] 0 tb (accepted tb st a t) 1 (omega arith))
+      go zero h = ap (λ (o : RunOutcome). o.reply) (run_go tb st 0 a t [] h ∙ sym (none_left_lem tb (accepted tb st a t) 1 [] (omega arith)))
       go (suc r) h = ap (λ (o : RunOutcome). o.reply) (run_stop tb st 0 a t [] r h)
 
   pub alone_words : (run_from tb st 0 (a ∷ t ∷ [])).state ≡ words_after tb st a t
@@ -140,8 +134,15 @@ module _ (tb st : List ℕ) (a t : ℕ) where
   alone_words = go (choice_reply tb st a t) refl
     where
       go : (r : ℕ) → choice_reply tb st a t ≡ r → (run_from tb st 0 (a ∷ t ∷ [])).state ≡ cond (eqb (choice_reply tb st a t) 0) (accepted tb st a t) st
-      go zero h = ap (λ (o : RunOutcome). o.state) (run_go tb st 0 a t [] h ∙ none_left_lem [] 0 tb (accepted tb st a t) 1 (omega arith)) ∙ rw (eq-eqb (choice_reply tb st a t) 0 h)
+      go zero h = ap (λ (o : RunOutcome). o.state) (run_go tb st 0 a t [] h ∙ sym (none_left_lem tb (accepted tb st a t) 1 [] (omega arith))) ∙ rw (eq-eqb (choice_reply tb st a t) 0 h)
       go (suc r) h = ap (λ (o : RunOutcome). o.state) (run_stop tb st 0 a t [] r h) ∙ rw (ne_eqb (choice_reply tb st a t) 0 (λ z. absurd (omega arith)))
+
+-- a run of one choice, on from words that a step takes, is that step
+pub alone_step : (tb st : List ℕ) (a t r n : ℕ) (ws : List ℕ) → Ready tb st → ended r n ws ≡ run_from (table_part tb) (state_part st) 0 (a ∷ t ∷ [])
+    → outcome r (ws ++ past_state st) ≡ step_into tb st a t
+alone_step tb st a t r n ws ready e =
+    let c = ap (λ (o : RunOutcome). o.reply) e ∙ alone_reply (table_part tb) (state_part st) a t in
+    step_ends tb st a t r ws (c ∙ sym (ready_reply tb st a t ready)) c (ap (λ (o : RunOutcome). o.state) e ∙ alone_words (table_part tb) (state_part st) a t)
 
 -- ---- the count is at most 512
 
@@ -163,56 +164,67 @@ count_bound tb good from long fit cs st ds n e =
     let q = ap (λ (o : RunOutcome). o.count) e in
     omega arith
 
--- ---- what a loop over choices holds besides L, what is left to do: the lates of the agents' current rows, and a deadline d that is above none of them
+-- ---- what taking a choice tells
 
-pub record Turning (L : Type 0) (tb st ls : List ℕ) (d : ℕ) : Type 0 where
-  pub left : L
-  pub lates : Lates tb st ls
-  pub deadline_in_time : above_none ls d ≡ true
+-- a refusal that is passed on
+pub takes_refusal : (tb st : List ℕ) (a t : ℕ) (x : Refusal) (r : Result Agent Refusal) → IsErrAnd r (λ e. e ≡ x) → choice_reply tb st a t ≡ number_of x → Takes tb st st a t r
+unfolding Takes
+takes_refusal tb st a t x (Ok _) h e = absurd h
+takes_refusal tb st a t x (Err y) h e = (e ∙ ap number_of (sym h), refl)
 
--- ---- one turn of the loop over the choices cs
+pub takes_ok : (tb old new : List ℕ) (a t : ℕ) {r : Result Agent Refusal} {s : Agent} → Takes tb old new a t r → r ≡ Ok s
+    → (choice_reply tb old a t ≡ 0) × (new ≡ accepted tb old a t) × (s ≡ agent_at new a)
+unfolding Takes
+takes_ok tb old new a t h e = rw e at h
 
--- n are accepted, i words of cs are read, and what is left of them, from the words st with the registers g, ends as all of them do from the words `from`
-pub record Left (tb from cs st : List ℕ) (g : List (List ℕ)) (n i : ℕ) : Type 0 where
-  pub read : i ≤ length cs
-  pub even : i % 2 ≡ 0
-  pub long : length st ≡ 1105
-  pub wide : length g ≡ 16
-  pub ends : run_from tb (with_regs st g) n (drop i cs) ≡ run_from tb from 0 cs
+pub takes_err : (tb old new : List ℕ) (a t : ℕ) {r : Result Agent Refusal} {x : Refusal} → Takes tb old new a t r → r ≡ Err x
+    → (choice_reply tb old a t ≡ number_of x) × (new ≡ old)
+unfolding Takes
+takes_err tb old new a t h e = rw e at h
 
-module _ (tb : List ℕ) (good : good_table tb ≡ true) (from : List ℕ) (long-from : length from ≡ 1105) (fit : fits tb from ≡ true) (cs : List ℕ) (pairs : length cs % 2 ≡ 0)
-    (st : List ℕ) (g : List (List ℕ)) (n i : ℕ) (l : Left tb from cs st g n i) (more : i < length cs) where
-  abbrev a : ℕ
-  a = get_or cs i 0
+pub ended_as : {r n : ℕ} {ws known : List ℕ} {o : RunOutcome} → ended r n known ≡ o → ws ≡ known → ended r n ws ≡ o
+ended_as {r = r} {n = n} e is = ap (ended r n) is ∙ e
 
-  abbrev t : ℕ
-  t = get_or cs (i + 1) 0
+-- ---- one turn of the loop over the choices cs, in pairs
 
-  two_left : i + 1 < length cs
-  two_left = let v = l.even in omega arith
+-- the choices behind the first k
+abbrev pub behind : ℕ → List ℕ → List ℕ
+behind k cs = drop (2 * k) cs
 
-  from_here : run_from tb (with_regs st g) n (a ∷ t ∷ drop (i + 2) cs) ≡ run_from tb from 0 cs
-  from_here = ap (run_from tb (with_regs st g) n) (sym (two cs i two_left)) ∙ l.ends
+drop_at : (n : ℕ) (cs : List ℕ) → n < length cs → drop n cs ≡ get_or cs n 0 ∷ drop (n + 1) cs
+drop_at n [] h = absurd (omega arith)
+drop_at zero (x ∷ cs) h = refl
+drop_at (suc n) (x ∷ cs) h = let e : suc n + 1 ≡ suc (n + 1) = omega arith in rw e (drop_at n cs (omega arith))
 
-  pub turn_ends : (r : ℕ) → choice_reply tb (with_regs st g) a t ≡ r → (r ≡ 0 → ⊥) → ended r n (with_regs st g) ≡ run_from tb from 0 cs
-  turn_ends r h k = sym (refused_run tb st g a t r h k n (drop (i + 2) cs)) ∙ from_here
+first_left : (k : ℕ) (cs : List ℕ) → k < length cs / 2 → behind k cs ≡ get_or cs (2 * k) 0 ∷ get_or cs (2 * k + 1) 0 ∷ behind (k + 1) cs
+first_left k cs h =
+    let e : 2 * k + 1 + 1 ≡ 2 * (k + 1) = omega arith in
+    drop_at (2 * k) cs (omega arith)
+    ∙ ap (λ (l : List ℕ). get_or cs (2 * k) 0 ∷ l) (drop_at (2 * k + 1) cs (omega arith) ∙ ap (λ (m : ℕ). get_or cs (2 * k + 1) 0 ∷ drop m cs) e)
 
-  module _ (h : choice_reply tb (with_regs st g) a t ≡ 0) (q : Agent) (ws : List ℕ) (e : acted q ws ≡ act_into tb st g a t) where
-    turn_low : a < 16
-    turn_low = chosen_low tb (with_regs st g) good a t h
+-- k are accepted, and those behind them end, from the words st, as all of cs do from the words `from`
+pub record Left (tb from cs st : List ℕ) (n k : ℕ) : Type 0 where
+  pub count : n ≡ k
+  pub ends : run_from tb st k (behind k cs) ≡ run_from tb from 0 cs
 
-    next_ends : run_from tb (with_regs ws (set g a q.regs)) (n + 1) (drop (i + 2) cs) ≡ run_from tb from 0 cs
-    next_ends = sym (accepted_run tb st g a t q ws e l.long l.wide turn_low h n (drop (i + 2) cs)) ∙ from_here
+module _ (tb from cs st : List ℕ) (n k : ℕ) (l : Left tb from cs st n k) where
+  pub none_more : length cs / 2 ≤ k → ended 0 n st ≡ run_from tb from 0 cs
+  none_more h = ap (λ (m : ℕ). ended 0 m st) l.count ∙ none_left_lem tb st k (behind k cs) (simp (length-drop) (omega arith)) ∙ l.ends
 
-    pub turn_count : n + 1 ≤ 512
-    turn_count = count_bound tb good from long-from fit cs (with_regs ws (set g a q.regs)) (drop (i + 2) cs) (n + 1) next_ends
+  module _ (more : k < length cs / 2) (a t : ℕ) (ea : a ≡ get_or cs (2 * k) 0) (et : t ≡ get_or cs (2 * k + 1) 0) where
+    from_here : run_from tb st k (a ∷ t ∷ behind (k + 1) cs) ≡ run_from tb from 0 cs
+    from_here = rw (ea, et) (ap (run_from tb st k) (sym (first_left k cs more)) ∙ l.ends)
 
-    pub turn_goes : Left tb from cs ws (set g a q.regs) (n + 1) (i + 2)
-    turn_goes =
-        record {
-          read = let h = two_left in omega arith;
-          even = let v = l.even in omega arith;
-          long = words_length tb st g a t q ws e l.long l.wide turn_low;
-          wide = length-set g a q.regs ∙ l.wide;
-          ends = next_ends;
-        }
+    pub turn_ends : (r : ℕ) → choice_reply tb st a t ≡ r → (r ≡ 0 → ⊥) → ended r n st ≡ run_from tb from 0 cs
+    turn_ends zero h z = absurd (z refl)
+    turn_ends (suc r) h z = ap (λ (m : ℕ). ended (suc r) m st) l.count ∙ sym (run_stop tb st k a t (behind (k + 1) cs) r h) ∙ from_here
+
+    module _ (h : choice_reply tb st a t ≡ 0) (new : List ℕ) (is : new ≡ accepted tb st a t) where
+      next_ends : run_from tb new (k + 1) (behind (k + 1) cs) ≡ run_from tb from 0 cs
+      next_ends = ap (λ (w : List ℕ). run_from tb w (k + 1) (behind (k + 1) cs)) is ∙ sym (run_go tb st k a t (behind (k + 1) cs) h) ∙ from_here
+
+      pub turn_count : good_table tb ≡ true → length from ≡ 1105 → fits tb from ≡ true → n + 1 ≤ 512
+      turn_count good long fit = let b = count_bound tb good from long fit cs new (behind (k + 1) cs) (k + 1) next_ends in let e = l.count in omega arith
+
+      pub turn_goes : Left tb from cs new (n + 1) (k + 1)
+      turn_goes = record { count = ap (λ (m : ℕ). m + 1) l.count; ends = next_ends }

@@ -7,7 +7,8 @@ use native.Mathlib.Omega.{arith}
 use lib.ListN.{length, set, take, drop, get_or, replicate, length-append, length-take, length-drop, get_or-append}
 use Rattle.choices.specs.State.{start_words}
 use Rattle.tables.proofs.Zeros.{get_or-zeros}
-use Rattle.choices.proofs.Lists.{get_or-right, get_d_part}
+use lib.Seq.{get_or-append_right}
+use Rattle.choices.proofs.Lists.{get_d_part}
 
 abbrev one : List ℕ
 one = 1 ∷ replicate 16 0
@@ -39,7 +40,7 @@ module _ (tb : List ℕ) (long : 2129 ≤ length tb) where
   pub start_register : (i : ℕ) → 17 ≤ i → i < 81 → get_or (start_words tb) i 0 ≡ get_or tb i 0
   unfolding start_words
   start_register i p h =
-      get_or-right one (regs tb ++ replicate 1024 0) i p
+      get_or-append_right one (regs tb ++ replicate 1024 0) i 0 p
       ∙ get_or-append (regs tb) (replicate 1024 0) 0 (i - 17) (omega (arith, regs_length))
       ∙ get_d_part tb 64 17 (i - 17) (omega arith)
       ∙ ap (λ (n : ℕ). get_or tb n 0) (omega arith)
@@ -47,8 +48,8 @@ module _ (tb : List ℕ) (long : 2129 ≤ length tb) where
   pub start_high : (i : ℕ) → 81 ≤ i → get_or (start_words tb) i 0 ≡ 0
   unfolding start_words
   start_high i p =
-      get_or-right one (regs tb ++ replicate 1024 0) i (omega arith)
-      ∙ get_or-right (regs tb) (replicate 1024 0) (i - 17) (omega (arith, regs_length))
+      get_or-append_right one (regs tb ++ replicate 1024 0) i 0 (omega arith)
+      ∙ get_or-append_right (regs tb) (replicate 1024 0) (i - 17) 0 (omega (arith, regs_length))
       ∙ get_or-zeros 1024 (i - 17 - length (regs tb))
 
 -- all words 0, then the clock, then the registers

@@ -1,10 +1,9 @@
 -- What a row does to its agent, in 01's words: one law for each row of its table, of the definition `after` at that op. For every row of the op, every message
 -- and every agent: no bound on a register is needed. proofs/Effects.antt proves each under its own name. Assumes nothing.
-use Rattle.std.specs.Prelude.{◌≡◌, ◌↔◌, ◌≢◌, ℕ, ◌+◌, ◌%◌, ◌^◌, ◌<◌, get_or}
+use Rattle.std.specs.Prelude.{◌≡◌, ◌↔◌, ◌≢◌, ℕ, ◌+◌, ◌%◌, ◌^◌, ◌<◌, get_or, Option, None, Some}
 use Rattle.tables.specs.declared.Row.{Row}
 use Rattle.choices.specs.declared.Agent.{Agent}
-use Rattle.choices.specs.declared.Best.{Best}
-use Rattle.choices.specs.declared.Best.TheVariants.{Nothing, Message}
+use Rattle.choices.specs.declared.Message.{Message}
 use Rattle.choices.specs.Effect.{after, put, go_to}
 use Rattle.executive.specs.Numbers.{bit, bits, Lowest}
 
@@ -16,15 +15,15 @@ abbrev pub held_y : Row → Agent → ℕ
 held_y r s = get_or s.regs r.y 0
 
 -- of every row with this op, every message and every agent
-abbrev pub OfOp : ℕ → (Row → Best → Agent → Type 0) → Type 0
-OfOp op law = (r : Row) (m : Best) (s : Agent) → r.op ≡ op → law r m s
+abbrev pub OfOp : ℕ → (Row → Option Message → Agent → Type 0) → Type 0
+OfOp op law = (r : Row) (m : Option Message) (s : Agent) → r.op ≡ op → law r m s
 
 -- x becomes v, on at p+1
-abbrev pub Becomes : Row → Best → Agent → ℕ → Type 0
+abbrev pub Becomes : Row → Option Message → Agent → ℕ → Type 0
 Becomes r m s v = after r m s ≡ put r.x v s
 
 -- the registers stay, on at p
-abbrev pub GoesTo : Row → Best → Agent → ℕ → Type 0
+abbrev pub GoesTo : Row → Option Message → Agent → ℕ → Type 0
 GoesTo r m s p = after r m s ≡ go_to p s
 
 -- SET x, k: "x becomes k"
@@ -65,7 +64,7 @@ SendIsOn = OfOp 0x20 (λ r m s. GoesTo r m s (s.pos + 1))
 
 -- RECV x, k, n: "message found: x becomes its value, on at p+1; none: x stays, on at p+1+n"
 abbrev pub ReceiveFound : Type 0
-ReceiveFound = (l b i v : ℕ) → OfOp 0x30 (λ r m s. m ≡ Message l b i v → Becomes r m s v)
+ReceiveFound = (g : Message) → OfOp 0x30 (λ r m s. m ≡ Some g → Becomes r m s g.value)
 
 abbrev pub ReceiveNone : Type 0
-ReceiveNone = OfOp 0x30 (λ r m s. m ≡ Nothing → GoesTo r m s (s.pos + 1 + r.n))
+ReceiveNone = OfOp 0x30 (λ r m s. m ≡ None → GoesTo r m s (s.pos + 1 + r.n))

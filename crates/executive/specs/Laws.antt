@@ -1,5 +1,5 @@
 -- Laws that show the definitions to mean what 01 says, and what T-04 and T-07 ask: each as a statement, in 01's words where it is 01's. proofs/Laws.antt proves each under its own name. Assumes nothing.
-use Rattle.std.specs.Prelude.{◌≡◌, ◌↔◌, ◌⊎◌, ◌≢◌, true, List, [], ◌∷◌, ℕ, zero, suc, ◌+◌, ◌≤◌, ◌<◌, length}
+use Rattle.std.specs.Prelude.{◌≡◌, ◌↔◌, ◌⊎◌, ◌≢◌, true, List, [], ◌∷◌, ℕ, zero, suc, ◌+◌, ◌≤◌, ◌<◌, length, Option, None, Some}
 use Rattle.tables.specs.Layout.{agents, rows, row, table_words}
 use Rattle.tables.specs.Basics.{OneOf}
 use Rattle.tables.specs.Rows.{goes_on_to}
@@ -7,8 +7,7 @@ use Rattle.tables.specs.Table.{good_table}
 use Rattle.tables.specs.Paths.{GoesOn, Path}
 use Rattle.tables.specs.declared.Row.{Row}
 use Rattle.choices.specs.declared.Agent.{Agent}
-use Rattle.choices.specs.declared.Best.{Best}
-use Rattle.choices.specs.declared.Best.TheVariants.{Nothing, Message}
+use Rattle.choices.specs.declared.Message.{Message}
 use Rattle.choices.specs.State.{pos, mark, value, Pool, pool, agent_at, start_words, state_words}
 use Rattle.choices.specs.Messages.{visible, best}
 use Rattle.choices.specs.Effect.{after}
@@ -34,17 +33,17 @@ abbrev pub NoneVisible : List ℕ → Pool → Row → Type 0
 NoneVisible tb p r = (c j : ℕ) → c < agents tb → j < 32 → Visible tb p r c j → ⊥
 
 -- nothing is taken where nothing is visible; a message that is taken is visible, and no visible message goes before it
-abbrev pub Taken : List ℕ → Pool → Row → Best → Type 0
-Taken tb p r Nothing = NoneVisible tb p r
-Taken tb p r (Message l b i v) =
-    (b < agents tb) × (i < 32) × Visible tb p r b i × (l ≡ (row tb b i).late) × (v ≡ p.value b i)
-    × ((c j : ℕ) → c < agents tb → j < 32 → Visible tb p r c j → GoesBefore tb c j b i → ⊥)
+abbrev pub Taken : List ℕ → Pool → Row → Option Message → Type 0
+Taken tb p r None = NoneVisible tb p r
+Taken tb p r (Some m) =
+    (m.agent < agents tb) × (m.row < 32) × Visible tb p r m.agent m.row × (m.late ≡ (row tb m.agent m.row).late) × (m.value ≡ p.value m.agent m.row)
+    × ((c j : ℕ) → c < agents tb → j < 32 → Visible tb p r c j → GoesBefore tb c j m.agent m.row → ⊥)
 
 abbrev pub BestIsTaken : Type 0
 BestIsTaken = (tb : List ℕ) (p : Pool) (r : Row) → agents tb ≤ 16 → Taken tb p r (best tb p r)
 
 abbrev pub NoneIsTaken : Type 0
-NoneIsTaken = (tb : List ℕ) (p : Pool) (r : Row) → agents tb ≤ 16 → best tb p r ≡ Nothing ↔ NoneVisible tb p r
+NoneIsTaken = (tb : List ℕ) (p : Pool) (r : Row) → agents tb ≤ 16 → best tb p r ≡ None ↔ NoneVisible tb p r
 
 -- ---- what an agent's next state depends on
 
@@ -109,7 +108,7 @@ StepKeepsFit = (tb st : List ℕ) (a t : ℕ) → Sound tb st → choice_reply t
 
 -- the rows that a row can go on to are just those at which it takes some agent that stands at it, with some message or none
 abbrev pub GoesOnExactly : Type 0
-GoesOnExactly = (r : Row) (p j : ℕ) → OneOf j (goes_on_to r p) ↔ ((s : Agent) × (m : Best) × (s.pos ≡ p) × ((after r m s).pos ≡ j))
+GoesOnExactly = (r : Row) (p j : ℕ) → OneOf j (goes_on_to r p) ↔ ((s : Agent) × (m : Option Message) × (s.pos ≡ p) × ((after r m s).pos ≡ j))
 
 -- a step takes its agent to a row that its row can go on to, and leaves every other agent where it is
 abbrev pub StepGoesOn : Type 0

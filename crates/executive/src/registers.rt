@@ -1,32 +1,21 @@
 // The registers of all agents, out of a state's words and back into them.
-ghost use Rattle.std.specs.Prelude.{◌≡◌, ◌+◌, ◌≤◌, length, take, drop};
+ghost use Rattle.std.specs.Prelude.{◌≡◌, ◌≤◌, length};
 ghost use Rattle.choices.specs.State.{state_words};
 ghost use Rattle.choices.specs.Registers.{with_regs};
 
-use choices::layout::{REGISTERS_AT, reg_place};
+use choices::layout::{MARKS_AT, REGISTERS_AT};
 use tables::layout::{MOST_AGENTS, REGISTERS};
 
 // The registers of all agents.
 const ALL_REGISTERS: usize = REGISTERS * MOST_AGENTS;
-
-// Four words from a place on.
-fn four_from(words: &[u32], p: usize) -> [u32; REGISTERS]
-    requires { p + 4 ≤ length words.now }
-    ensures { result ≡ take 4 (drop p words.now) }
-{
-    [words[p], words[p + 1], words[p + 2], words[p + 3]]
-}
 
 // The registers that stand in the state.
 pub fn load_registers(state: &[u32]) -> [[u32; REGISTERS]; MOST_AGENTS]
     requires { state_words ≤ length state.now }
     ensures { with_regs state.now result ≡ state.now }
 {
-    let mut g = [[0u32; REGISTERS]; MOST_AGENTS];
-    for a in 0..MOST_AGENTS {
-        g[a] = four_from(state, reg_place(a));
-    }
-    g
+    let (all, _) = state[REGISTERS_AT..MARKS_AT].as_chunks();
+    <[[u32; REGISTERS]; MOST_AGENTS]>::try_from(all).unwrap()
 }
 
 // The registers g into the state.
@@ -34,6 +23,7 @@ pub fn store_registers(state: &mut [u32], g: [[u32; REGISTERS]; MOST_AGENTS])
     requires { state_words ≤ length state.old }
     ensures { state.new ≡ with_regs state.old g }
 {
+    // Word by word: `copy_from_slice(g.as_flattened())` moves the same 64 words, but its proof did not close, since nothing known of g says that each of its arrays is of 4.
     for j in 0..ALL_REGISTERS {
         state[REGISTERS_AT + j] = g[j / REGISTERS][j % REGISTERS];
     }
