@@ -2,18 +2,16 @@
 use mathlib.Core.Path.{◌≡◌, refl, sym, ap, ◌∙◌}
 use mathlib.Core.Logic.{inl, inr}
 use mathlib.Core.Bool.{true}
-use mathlib.Core.List.{List, [], ◌∷◌}
+use mathlib.Core.List.{List, [], ◌∷◌, ◌++◌}
 use Prim.Native.Nat.{ℕ, ◌+◌, ◌≤◌, ◌<◌}
 use native.Mathlib.Omega.{arith}
-use lib.ListN.{length, take, drop, drop_of_length-le}
-use lib.Seq.{drop-drop}
+use lib.ListN.{length, take, drop, drop_of_length-le, length-append}
+use lib.Seq.{drop-drop, take_all, take-append_seam, drop-append_seam}
 use Rattle.tables.specs.Lines.{lines, field, digits_line}
 use Rattle.tables.specs.Faults.{fault_reply, judge}
 use Rattle.tables.specs.Heads.{digits_at, line_length, line_from}
 use Rattle.tables.specs.declared.faults.Fault.{Fault}
-use Rattle.tables.specs.declared.faults.Judged.{Judged}
-use Rattle.tables.specs.declared.faults.Judged.TheVariants.{Sound, Faulty}
-use Rattle.tables.proofs.Lines.{field_cut, field_from}
+use Rattle.std.specs.Prelude.{Result, Ok, Err}
 use Rattle.tables.proofs.Newlines.{line_length_lem, lines_digits}
 use Rattle.tables.proofs.FirstLine.{line_whole, first_line_at}
 use Rattle.tables.proofs.Judging.{fault_some, Among, sound_among}
@@ -23,7 +21,7 @@ use Rattle.reading.specs.declared.Told.{Told}
 use Rattle.traces.specs.Input.{known_in_choices, bad_choice, choices_in}
 
 -- a choice line is 12 digits
-pub sound_choice : (l : List ℕ) → judge known_in_choices l ≡ Sound → digits_line 12 l ≡ true
+pub sound_choice : (l : List ℕ) → judge known_in_choices l ≡ Ok tt → digits_line 12 l ≡ true
 sound_choice l e = go (sound_among known_in_choices l e)
   where
     go : Among known_in_choices l → digits_line 12 l ≡ true
@@ -33,21 +31,21 @@ sound_choice l e = go (sound_among known_in_choices l e)
 -- ---- what is told of the choice lines, by the first of them
 
 module _ (n : ℕ) (l : List ℕ) (ls : List (List ℕ)) where
-  bad_sound : judge known_in_choices l ≡ Sound → bad_choice n (l ∷ ls) ≡ bad_choice (n + 1) ls
+  bad_sound : judge known_in_choices l ≡ Ok tt → bad_choice n (l ∷ ls) ≡ bad_choice (n + 1) ls
   unfolding bad_choice
   bad_sound e = rw (e, bad_choice)
 
-  bad_faulty : (w : Fault) → judge known_in_choices l ≡ Faulty w → bad_choice n (l ∷ ls) ≡ told (fault_reply w) n
+  bad_faulty : (w : Fault) → judge known_in_choices l ≡ Err w → bad_choice n (l ∷ ls) ≡ told (fault_reply w) n
   unfolding bad_choice
   bad_faulty w e = rw (e, bad_choice)
 
   -- where nothing is told, the first is a choice, and nothing is told of the others
-  pub bad_none_head : (bad_choice n (l ∷ ls)).reply ≡ 0 → (judge known_in_choices l ≡ Sound) × ((bad_choice (n + 1) ls).reply ≡ 0)
+  pub bad_none_head : (bad_choice n (l ∷ ls)).reply ≡ 0 → (judge known_in_choices l ≡ Ok tt) × ((bad_choice (n + 1) ls).reply ≡ 0)
   bad_none_head h = go (judge known_in_choices l) refl
     where
-      go : (j : Judged) → judge known_in_choices l ≡ j → (judge known_in_choices l ≡ Sound) × ((bad_choice (n + 1) ls).reply ≡ 0)
-      go Sound e = (e, ap (λ (q : Told). q.reply) (sym (bad_sound e)) ∙ h)
-      go (Faulty w) e = absurd (fault_some w (ap (λ (q : Told). q.reply) (sym (bad_faulty w e)) ∙ h))
+      go : (j : Result Unit Fault) → judge known_in_choices l ≡ j → (judge known_in_choices l ≡ Ok tt) × ((bad_choice (n + 1) ls).reply ≡ 0)
+      go (Ok _) e = (e, ap (λ (q : Told). q.reply) (sym (bad_sound e)) ∙ h)
+      go (Err w) e = absurd (fault_some w (ap (λ (q : Told). q.reply) (sym (bad_faulty w e)) ∙ h))
 
 -- that nothing is told does not depend on the number of the first line
 pub bad_any : (ls : List (List ℕ)) (n m : ℕ) → (bad_choice n ls).reply ≡ 0 → (bad_choice m ls).reply ≡ 0
@@ -60,7 +58,7 @@ bad_any (l ∷ ls) n m h =
 -- ---- a choice line at a place
 
 abbrev pub IsChoice : List ℕ → ℕ → Type 0
-IsChoice text p = judge known_in_choices (line_from text p) ≡ Sound
+IsChoice text p = judge known_in_choices (line_from text p) ≡ Ok tt
 
 module _ (text : List ℕ) (p : ℕ) (h : IsChoice text p) where
   choice_line : line_from text p ≡ take 13 (drop p text)
@@ -86,32 +84,51 @@ module _ (text : List ℕ) (p : ℕ) (h : IsChoice text p) where
   pub bad_next : (n : ℕ) → bad_choice n (lines (drop p text)) ≡ bad_choice (n + 1) (lines (drop (p + 13) text))
   bad_next n = ap (bad_choice n) choice_lines_lem ∙ bad_sound n (line_from text p) (lines (drop (p + 13) text)) h
 
-  -- k digits from digit i of the line
-  choice_field : (i k : ℕ) → i + k ≤ 12 → field (line_from text p) i k ≡ field text (p + i) k
-  choice_field i k j =
-      ap (λ (l : List ℕ). field l i k) choice_line
-      ∙ field_cut (drop p text) 13 i k (omega arith)
-      ∙ sym (field_from text p (p + i) i k refl)
-
-  pub choices_next : choices_in (lines (drop p text)) ≡ field text (p + 2) 2 ∷ field text (p + 4) 8 ∷ choices_in (lines (drop (p + 13) text))
-  unfolding choices_in
-  choices_next = rw (choice_lines_lem, choice_field 2 2 (omega arith), choice_field 4 8 (omega arith))
-
 -- ---- a line with a fault at a place, and no line
 
 module _ (text : List ℕ) (p : ℕ) where
-  pub bad_here : p < length text → (n : ℕ) (w : Fault) → judge known_in_choices (line_from text p) ≡ Faulty w → bad_choice n (lines (drop p text)) ≡ told (fault_reply w) n
+  pub bad_here : p < length text → (n : ℕ) (w : Fault) → judge known_in_choices (line_from text p) ≡ Err w → bad_choice n (lines (drop p text)) ≡ told (fault_reply w) n
   bad_here h n w e = ap (bad_choice n) (first_line_at text p h) ∙ bad_faulty n (line_from text p) _ w e
 
   -- where nothing is told of the lines from here on, a choice line stands here
   pub good_here : p < length text → (n : ℕ) → (bad_choice n (lines (drop p text))).reply ≡ 0 → IsChoice text p
   good_here h n e = (bad_none_head n (line_from text p) _ (ap (λ (ls : List (List ℕ)). (bad_choice n ls).reply) (sym (first_line_at text p h)) ∙ e)).0
 
-  module _ (h : length text ≤ p) where
-    pub bad_none : (n : ℕ) → bad_choice n (lines (drop p text)) ≡ told 0 0
-    unfolding bad_choice lines
-    bad_none n = rw (drop_of_length-le text {i = p} h)
+  pub bad_none : length text ≤ p → (n : ℕ) → bad_choice n (lines (drop p text)) ≡ told 0 0
+  unfolding bad_choice lines
+  bad_none h n = rw (drop_of_length-le text {i = p} h)
 
-    pub choices_none : choices_in (lines (drop p text)) ≡ []
-    unfolding choices_in lines
-    choices_none = rw (drop_of_length-le text {i = p} h)
+-- ---- choice lines taken off the front, one after the other, where nothing is told of any
+
+module _ (n : ℕ) (line left : List ℕ) (k : length line ≡ 13) (e : (bad_choice n (lines (line ++ left))).reply ≡ 0) where
+  here : IsChoice (line ++ left) 0
+  here = good_here (line ++ left) 0 (simp length-append (omega arith)) n e
+
+  front_line : line_from (line ++ left) 0 ≡ line
+  front_line = choice_line (line ++ left) 0 here ∙ ap (λ (m : ℕ). take m (line ++ left)) (sym k) ∙ take-append_seam line left
+
+  front_sound : judge known_in_choices line ≡ Ok tt
+  front_sound = ap (judge known_in_choices) (sym front_line) ∙ here
+
+  front_lines : lines (line ++ left) ≡ line ∷ lines left
+  front_lines =
+      choice_lines_lem (line ++ left) 0 here
+      ∙ ap (λ (l : List ℕ). l ∷ lines (drop 13 (line ++ left))) front_line
+      ∙ ap (λ (m : ℕ). line ∷ lines (drop m (line ++ left))) (sym k)
+      ∙ ap (λ (l : List ℕ). line ∷ lines l) (drop-append_seam line left)
+
+  pub front_digits : digits_at 12 line 0 ≡ true
+  unfolding digits_at
+  front_digits = ap (digits_line 12) (take_all 13 line (omega arith)) ∙ sound_choice line front_sound
+
+  pub front_next : (bad_choice (n + 1) (lines left)).reply ≡ 0
+  front_next = ap (λ (q : Told). q.reply) (sym (bad_sound n line (lines left) front_sound) ∙ ap (bad_choice n) (sym front_lines)) ∙ e
+
+  pub front_choice : choices_in (lines (line ++ left)) ≡ field line 2 2 ∷ field line 4 8 ∷ choices_in (lines left)
+  unfolding choices_in
+  front_choice = rw front_lines
+
+-- fewer bytes than a choice line has are none
+pub none_left_lem : (n : ℕ) (left : List ℕ) → (bad_choice n (lines left)).reply ≡ 0 → length left < 13 → left ≡ []
+none_left_lem n [] e h = refl
+none_left_lem n (b ∷ bs) e h = let r = choice_room (b ∷ bs) 0 (good_here (b ∷ bs) 0 (omega arith) n e) (omega arith) in absurd (omega arith)

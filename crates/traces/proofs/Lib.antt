@@ -1,4 +1,5 @@
 -- Laws that the proofs of several functions cite.
+pub mod Newline
 pub mod Places
 pub mod Choices
 pub mod Steps

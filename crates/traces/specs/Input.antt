@@ -1,8 +1,7 @@
 -- The trace program's input: "a table up to the first `FF` line, then choice lines `02`, agent, time (4 bytes), 12 digits". Assumes nothing.
-use Rattle.std.specs.Prelude.{cond, List, [], ◌∷◌, ℕ, ◌+◌, length, take, drop}
+use Rattle.std.specs.Prelude.{Ok, Err, cond, List, [], ◌∷◌, ℕ, ◌+◌, length, take, drop}
 use Rattle.tables.specs.Lines.{lines, same, end_line, field}
 use Rattle.tables.specs.Faults.{fault_reply, judge}
-use Rattle.tables.specs.declared.faults.Judged.TheVariants.{Sound, Faulty}
 use Rattle.reading.specs.Reader.{told}
 use Rattle.reading.specs.declared.Told.{Told}
 
@@ -27,7 +26,7 @@ known_in_choices = 0x02 ∷ 12 ∷ []
 -- what is told of the first choice line that has a fault, where line n is next; 0 where none has
 unfoldable pub bad_choice : ℕ → List (List ℕ) → Told
 bad_choice n [] = told 0 0
-bad_choice n (l ∷ ls) = elim (judge known_in_choices l) [ Sound ↦ bad_choice (n + 1) ls | Faulty w ↦ told (fault_reply w) n ]
+bad_choice n (l ∷ ls) = elim (judge known_in_choices l) [ Ok _ ↦ bad_choice (n + 1) ls | Err w ↦ told (fault_reply w) n ]
 
 -- "its line number in the whole input"
 unfoldable pub bad_choice_of : List ℕ → Told

@@ -1,14 +1,34 @@
 -- Vocabulary of the code alone, in which this crate's functions are stated, and what a caller that lends a part has to know: the public statement
 -- `WroteTrace` does not need it.
 -- What is put at a place of the output. Assumes nothing.
-use Rattle.std.specs.Prelude.{List, ◌≡◌, ℕ, ◌+◌, ◌≤◌, length, take}
+use Rattle.std.specs.Prelude.{Result, Ok, Err, List, ◌≡◌, ℕ, ◌+◌, ◌*◌, ◌≤◌, length, take}
 use Rattle.std.proofs.lemmas.List.Edits.{sets}
-use Rattle.traces.specs.Output.{Traced}
+use Rattle.traces.specs.Output.{Traced, traced, last_line}
+use Rattle.tables.specs.Replies.{number_of}
+use Rattle.traces.specs.declared.tracing.Untraced.{Untraced}
 use Rattle.traces.specs.Calls.{TraceOutcome, trace_outcome}
 
 -- the rest q of an output, put into the buffer from a place on
 abbrev pub placed : Traced → ℕ → List ℕ → TraceOutcome
 placed q at out = trace_outcome q.reply (at + length q.bytes) (sets out at q.bytes)
+
+-- the step lines before the last line, and what that line says
+pub record Last : Type 0 where
+  pub steps : ℕ
+  pub reply : ℕ
+  pub told : ℕ
+
+abbrev pub last : (steps reply told : ℕ) → Last
+last s r n = record { steps = s; reply = r; told = n }
+
+-- a trace that ends tells the count of its steps
+abbrev pub last_of : Result ℕ Untraced → Last
+last_of (Ok n) = last n 0 n
+last_of (Err u) = last u.steps (number_of u.refusal) u.told
+
+-- the last line put after the step lines, which stand at the start of the buffer
+abbrev pub ending : Last → List ℕ → TraceOutcome
+ending l out = placed (traced l.reply (last_line l.reply l.told)) (47 * l.steps) out
 
 -- a count of bytes at the start of a buffer, as a caller that lends that part has to know it
 pub record Counts (n : ℕ) (buffer : List ℕ) : Type 0 where

@@ -3,12 +3,13 @@ ghost use Rattle.std.specs.Prelude.{◌≡◌, ◌+◌, ◌≤◌, ◌<◌, ◌^
 ghost use Rattle.tables.specs.Lines.{lines};
 ghost use Rattle.tables.specs.Faults.{judge};
 ghost use Rattle.tables.specs.Heads.{line_length, line_from};
+ghost use Rattle.reading.specs.Reader.{told_of};
 ghost use Rattle.traces.specs.Input.{longest_input, table_bytes, table_text, known_in_choices, bad_choice};
 
-use reading::Told;
-use tables::faults::{Judged, fault_reply, judge_line};
+use reading::Refused;
+use tables::faults::{Fault, judge_line};
 use tables::frames::{END_BYTES, is_end};
-use tables::replies::ACCEPTED;
+use tables::replies::Refusal;
 
 const CHOICE_DIGITS: usize = 12;
 // The one first byte that a choice line may have, and the digits of the line.
@@ -30,14 +31,10 @@ fn next_line(text: &[u8], at: usize) -> usize
     requires { at ≤ length text.now }
     ensures { result ≡ at + line_length (drop at text.now) }
 {
-    let mut i = at;
-    while i < text.len() {
-        if text[i] == b'\n' {
-            return i + 1;
-        }
-        i += 1;
+    match text[at..].iter().position(|b| *b == b'\n') {
+        Some(n) => at + n + 1,
+        None => text.len(),
     }
-    i
 }
 
 // The end of the table's text: after the first end line, and of the whole input where there is none.
@@ -47,6 +44,7 @@ pub fn table_end(input: &[u8]) -> TableEnd
 {
     let mut at = 0;
     let mut count: u32 = 0;
+    // Lines of several widths: no `for` steps from one to the next.
     while at < input.len() {
         if is_end(input, at) {
             return TableEnd {
@@ -61,37 +59,25 @@ pub fn table_end(input: &[u8]) -> TableEnd
 }
 
 // The choice line that begins at this place, judged.
-fn judge_choice(text: &[u8], at: usize) -> Judged
+fn judge_choice(text: &[u8], at: usize) -> Result<(), Fault>
     requires { at ≤ length text.now }
     ensures { result ≡ judge known_in_choices (line_from text.now at) }
 {
     judge_line(text, at, &KNOWN_IN_CHOICES)
 }
 
-// What is told of the first choice line that has a fault, where the line that begins at this place has the number `line`; 0 and line 0 where none has.
-pub fn first_bad_choice(input: &[u8], at: usize, line: u32) -> Told
+// The first choice line that has a fault, where the line that begins at this place has the number `line`. All lines before it have one width.
+pub fn first_bad_choice(input: &[u8], at: usize, line: u32) -> Result<(), Refused>
     requires { (at ≤ length input.now) × (line + length input.now < 2 ^ 32) }
-    ensures { result ≡ bad_choice line (lines (drop at input.now)) }
+    ensures { told_of result ≡ bad_choice line (lines (drop at input.now)) }
 {
-    let mut p = at;
     let mut n = line;
-    while p < input.len() {
-        let judged = judge_choice(input, p);
-        match judged {
-            Judged::Sound => {
-                p += CHOICE_BYTES;
-                n += 1;
-            }
-            Judged::Faulty(fault) => {
-                return Told {
-                    reply: fault_reply(fault),
-                    line: n,
-                };
-            }
+    for p in (at..input.len()).step_by(CHOICE_BYTES) {
+        if let Err(fault) = judge_choice(input, p) {
+            let refusal = Refusal::from(fault);
+            return Err(Refused { refusal, line: n });
         }
+        n += 1;
     }
-    Told {
-        reply: ACCEPTED,
-        line: 0,
-    }
+    Ok(())
 }

@@ -1,17 +1,18 @@
 // The trace program's work: from input bytes to output bytes, on slices.
 #![tactic(auto)]
 
-ghost use Rattle.std.specs.Prelude.{◌≡◌, length};
-ghost use Rattle.tables.specs.Layout.{table_words};
-ghost use Rattle.traces.specs.Calls.{WroteTrace};
-ghost use Rattle.traces.specs.Places.{Counts};
+ghost use Rattle.std.specs.Prelude.{◌≡◌, ◌*◌, ◌≤◌, length};
+ghost use Rattle.traces.specs.Calls.{WroteTrace, longest_output, written};
+ghost use Rattle.traces.specs.Output.{trace_of};
+ghost use Rattle.traces.specs.Places.{Counts, Last, last_of, ending};
 
 use crate::input::{first_bad_choice, table_end};
-use crate::tracing::{finish, trace_steps};
+use crate::tracing::{Untraced, finish, trace_steps};
 use crate::writing::{LAST_BYTES, STEP_BYTES};
 use reading::reading::read;
 use tables::layout::{MOST_AGENTS, MOST_ROWS, TABLE_WORDS};
-use tables::replies::{ACCEPTED, BUFFER_TOO_SHORT, INPUT_TOO_LONG};
+use tables::replies::{ACCEPTED, Refusal};
+use tables::words::filled;
 
 mod input; // input.rt: the table's text and the choice lines
 mod writing; // writing.rt: hexadecimal text in the output buffer
@@ -22,7 +23,7 @@ pub const LONGEST_OUTPUT: usize = MOST_AGENTS * MOST_ROWS * STEP_BYTES + LAST_BY
 
 pub const LONGEST_INPUT: usize = 65536;
 
-// The reply of a trace, and the length of its text.
+// The reply of a trace, and the length of its text: C's struct. Its text has a length with a refusal as well, so no Result says more.
 #[repr(C)]
 #[derive(Clone, Copy)]
 pub struct TraceReply {
@@ -30,11 +31,29 @@ pub struct TraceReply {
     pub length: usize,
 }
 
-// A table of some words: a read that is accepted replaces them all.
-fn blank_table() -> [u32; TABLE_WORDS]
-    ensures { length result ≡ table_words }
+// The step lines of an input, at the start of `out`: their count, or why they end before the last choice.
+fn put_steps(input: &[u8], out: &mut [u8]) -> Result<u32, Untraced>
+    requires { longest_output ≤ length out.old }
+    ensures traced { ending (last_of result) out.new ≡ written (trace_of input.now) out.old }
+    ensures few { (last_of result).steps ≤ 512 }
 {
-    [0; TABLE_WORDS]
+    if LONGEST_INPUT < input.len() {
+        return Err(Untraced::from(Refusal::InputTooLong));
+    }
+    let end = table_end(input);
+    let at = end.at;
+    let mut table = filled::<u32, TABLE_WORDS>(0);
+    read(&input[..at], &mut table)?;
+    first_bad_choice(input, at, end.lines + 1)?;
+    Ok(trace_steps(&input[at..], &table, out)?)
+}
+
+// Where the lines of so many steps end.
+fn steps_end(steps: u32) -> usize
+    requires { steps ≤ 512 }
+    ensures { result ≡ 47 * steps }
+{
+    STEP_BYTES * steps as usize
 }
 
 // The output for an input, at the start of `out`.
@@ -44,23 +63,12 @@ pub fn trace(input: &[u8], out: &mut [u8]) -> TraceReply
 {
     if out.len() < LONGEST_OUTPUT {
         return TraceReply {
-            reply: BUFFER_TOO_SHORT,
+            reply: u32::from(Refusal::BufferTooShort),
             length: 0,
         };
     }
-    if LONGEST_INPUT < input.len() {
-        return finish(out, 0, INPUT_TOO_LONG, 0);
+    match put_steps(input, out) {
+        Ok(count) => finish(out, steps_end(count), ACCEPTED, count),
+        Err(e) => finish(out, steps_end(e.steps), u32::from(e.refusal), e.told),
     }
-    let end = table_end(input);
-    let at = end.at;
-    let mut table = blank_table();
-    let told = read(&input[..at], &mut table);
-    if told.reply != ACCEPTED {
-        return finish(out, 0, told.reply, told.line);
-    }
-    let bad = first_bad_choice(input, at, end.lines + 1);
-    if bad.reply != ACCEPTED {
-        return finish(out, 0, bad.reply, bad.line);
-    }
-    trace_steps(&input[at..], &table, out)
 }

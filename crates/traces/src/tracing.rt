@@ -1,77 +1,106 @@
 // The choice lines of an input, one step after the other, and the output's last line.
-ghost use Rattle.std.specs.Prelude.{◌≡◌, true, ◌+◌, ◌≤◌, length};
+ghost use Rattle.std.specs.Prelude.{◌≡◌, true, ◌+◌, ◌*◌, ◌≤◌, length};
 ghost use Rattle.tables.specs.Layout.{table_words};
 ghost use Rattle.tables.specs.Lines.{lines};
 ghost use Rattle.tables.specs.Table.{good_table};
-ghost use Rattle.choices.specs.State.{state_words, start_words};
+ghost use Rattle.choices.specs.State.{start_words};
+ghost use Rattle.executive.specs.Replies.{ran_of};
 ghost use Rattle.traces.specs.Input.{bad_choice, choices_in};
 ghost use Rattle.traces.specs.Output.{traced, last_line, trace_from};
 ghost use Rattle.traces.specs.Calls.{trace_outcome, longest_output, written};
-ghost use Rattle.traces.specs.Places.{placed};
+ghost use Rattle.traces.specs.Places.{placed, last, ending};
 
 use crate::TraceReply;
 use crate::input::{CHOICE_BYTES, TIME_AT};
 use crate::writing::{LAST_BYTES, STEP_BYTES, put_last_line, put_step_line};
-use choices::deadlines::{deadline_for, late_at, load_lates};
 use choices::layout::STATE_WORDS;
-use choices::stepping::{act, choice_reply};
-use executive::registers::load_registers;
+use executive::Stopped;
 use executive::starting::put_start;
+use executive::turns::Turns;
+use reading::Refused;
 use tables::frames::AGENT_AT;
 use tables::hex::field;
-use tables::replies::ACCEPTED;
+use tables::replies::Refusal;
+use tables::words::filled;
+
+// Why a trace ends before its last choice, the number that its last line tells, and the steps before that line.
+#[derive(Clone, Copy)]
+pub struct Untraced {
+    pub refusal: Refusal,
+    pub told: u32,
+    pub steps: u32,
+}
+
+// The whole input is refused: no line and no step is counted.
+impl From<Refusal> for Untraced {
+    ghost from_gives = { λ r u. u ≡ record { refusal = r; told = 0; steps = 0 } };
+
+    fn from(refusal: Refusal) -> Untraced {
+        Untraced {
+            refusal,
+            told: 0,
+            steps: 0,
+        }
+    }
+}
+
+// A line is refused before any step, and its number is told.
+impl From<Refused> for Untraced {
+    ghost from_gives = { λ q u. u ≡ record { refusal = q.refusal; told = q.line; steps = 0 } };
+
+    fn from(refused: Refused) -> Untraced {
+        Untraced {
+            refusal: refused.refusal,
+            told: refused.line,
+            steps: 0,
+        }
+    }
+}
+
+// A choice is refused, and the count of the steps before it is told.
+impl From<Stopped> for Untraced {
+    ghost from_gives = { λ s u. u ≡ record { refusal = s.refusal; told = s.count; steps = s.count } };
+
+    fn from(stopped: Stopped) -> Untraced {
+        Untraced {
+            refusal: stopped.refusal,
+            told: stopped.count,
+            steps: stopped.count,
+        }
+    }
+}
 
 // The last line, after the step lines that end at this place.
-pub fn finish(out: &mut [u8], at: usize, reply: u32, n: u32) -> TraceReply
+#[tactic(auto, using(crate::proofs::Steps::last_line_length))]
+pub fn finish(out: &mut [u8], at: usize, reply: u32, told: u32) -> TraceReply
     requires { at + 9 ≤ length out.old }
-    ensures { trace_outcome result.reply result.length out.new ≡ placed (traced reply (last_line reply n)) at out.old }
+    ensures { trace_outcome result.reply result.length out.new ≡ placed (traced reply (last_line reply told)) at out.old }
 {
-    put_last_line(out, at, reply, n);
+    put_last_line(out, at, reply, told);
     TraceReply {
         reply,
         length: at + LAST_BYTES,
     }
 }
 
-// A state of some words: the start state replaces them all.
-fn blank_state() -> [u32; STATE_WORDS]
-    ensures { length result ≡ state_words }
-{
-    [0; STATE_WORDS]
-}
-
-// The steps of the choice lines, none of which has a fault, from the start state of a good table.
-pub fn trace_steps(choices: &[u8], table: &[u32], out: &mut [u8]) -> TraceReply
+// The step lines of the choice lines, none of which has a fault, from the start state of a good table: their count, or where a choice is refused.
+pub fn trace_steps(choices: &[u8], table: &[u32], out: &mut [u8]) -> Result<u32, Stopped>
     requires { (length table.now ≡ table_words) × (good_table table.now ≡ true) × ((bad_choice 1 (lines choices.now)).reply ≡ 0) × (longest_output ≤ length out.old) }
-    ensures { trace_outcome result.reply result.length out.new ≡ written (trace_from table.now (start_words table.now) 0 (choices_in (lines choices.now))) out.old }
+    ensures traced { ending (last (ran_of result).count (ran_of result).reply (ran_of result).count) out.new ≡ written (trace_from table.now (start_words table.now) 0 (choices_in (lines choices.now))) out.old }
+    ensures few { (ran_of result).count ≤ 512 }
 {
-    let mut state = blank_state();
+    let mut state = filled::<u32, STATE_WORDS>(0);
     put_start(table, &mut state);
-    let mut regs = load_registers(&state);
-    let mut lates = load_lates(table, &state);
-    // The last one that was worked out: 0 is above no late.
-    let mut deadline: u32 = 0;
+    let mut turns = Turns::begin(table, &mut state);
     let mut n: u32 = 0;
-    let mut at = 0;
-    let mut end = 0;
-    while at < choices.len() {
-        let a = field(choices, at + AGENT_AT, 2);
-        let t = field(choices, at + TIME_AT, 8);
-        deadline = deadline_for(&lates, deadline, t);
-        let reply = choice_reply(table, &state, a, t, deadline);
-        if reply != ACCEPTED {
-            return finish(out, end, reply, n);
+    for line in choices.chunks_exact(CHOICE_BYTES) {
+        let a = field(line, AGENT_AT, 2);
+        let t = field(line, TIME_AT, 8);
+        match turns.take(a, t) {
+            Ok(agent) => put_step_line(out, STEP_BYTES * n as usize, a, t, agent),
+            Err(refusal) => return Err(Stopped { refusal, count: n }),
         }
-        let b = a as usize;
-        let own = regs[b];
-        let agent = act(table, &mut state, b, t, own);
-        let new = agent.regs;
-        regs[b] = new;
-        lates[b] = late_at(table, b, agent.pos);
-        put_step_line(out, end, a, t, agent);
         n += 1;
-        at += CHOICE_BYTES;
-        end += STEP_BYTES;
     }
-    finish(out, end, ACCEPTED, n)
+    Ok(n)
 }

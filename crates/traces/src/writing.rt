@@ -1,13 +1,11 @@
 // The lines of the output, put into a lent buffer from a place on.
 ghost use Rattle.std.specs.Prelude.{◌≡◌, ◌+◌, ◌≤◌, length};
 ghost use Rattle.std.proofs.lemmas.List.Edits.{sets};
-ghost use Rattle.digits.specs.Hex.{hex_words};
 ghost use Rattle.traces.specs.Output.{step_line, last_line};
 
 use choices::Agent;
 use digits::{BYTE_DIGITS, put_four, put_hex, put_word};
 use tables::frames::AGENT_AT;
-use tables::layout::REGISTERS;
 
 // Where the position, the time and the registers stand in the line of a step, after the agent.
 const POSITION_AT: usize = 4;
@@ -31,25 +29,16 @@ const LAST_DIGITS: usize = TOLD_AT + TOLD_DIGITS;
 // The last line, with its newline.
 pub const LAST_BYTES: usize = LAST_DIGITS + 1;
 
-// Four registers. (That they are four is what a caller has to know of an agent's list.)
-fn put_registers(out: &mut [u8], at: usize, regs: [u32; REGISTERS])
-    requires { at + 32 ≤ length out.old }
-    ensures { (out.new ≡ sets out.old at (hex_words regs)) × (length regs ≡ 4) }
-{
-    put_four(out, at, regs[0], regs[1], regs[2], regs[3]);
-}
-
 // The line of an accepted step: s is agent a's state after it.
 pub fn put_step_line(out: &mut [u8], at: usize, a: u32, t: u32, s: Agent)
     requires { at + 47 ≤ length out.old }
     ensures { out.new ≡ sets out.old at (step_line a t s) }
 {
-    let regs = s.regs;
     put_hex(out, at, BYTE_DIGITS, 0x03);
     put_hex(out, at + AGENT_AT, BYTE_DIGITS, a);
     put_hex(out, at + POSITION_AT, BYTE_DIGITS, s.pos);
     put_word(out, at + TIME_AT, t);
-    put_registers(out, at + REGISTERS_AT, regs);
+    put_four(out, at + REGISTERS_AT, s.regs);
     out[at + STEP_DIGITS] = b'\n';
 }
 

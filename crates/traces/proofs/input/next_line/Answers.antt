@@ -1,24 +1,18 @@
-use native.Mathlib.Omega.{arith}
-use borrow.Author.Rules.{rules}
-use mathlib.Core.Path.{refl, ◌∙◌}
-use Rattle.tables.proofs.FirstLine.{line_stop, line_on, line_none}
+-- `next_line` meets its contract: `position` finds the newline that ends the line. Assumes nothing.
+use Rattle.std.proofs.Common.{rules, sym, ◌∙◌}
+use Rattle.std.proofs.lemmas.Iterator.{YieldsList-from_slice}
+use Rattle.std.proofs.lemmas.Iterator.Search.{position_from_yields_List}
+use borrow.Author.Tests.{tests}
+use lib.ListN.{drop}
+use Rattle.traces.proofs.Newline.{is_newline, to_end, line_to, line_rest}
 use Rattle.traces.proofs.input.next_line.Goals as goal
 
-pub loop-i-init : goal.loop-i-init
-loop-i-init c = (search rules, refl)
+pub returns-in-Some : goal.returns-in-Some
+returns-in-Some c =
+    line_to _ _ c.requires _
+    (sym (position_from_yields_List is_newline _ _ _ c.position.ensures.ran (YieldsList-from_slice (drop c.args.at c.args.text.now) (c.iter.ensures.rest ∙ to_end c.args.text.now c.args.at)) (λ x b q k. search (rules, tests))) ∙ c.in-Some.is)
 
-pub returns-then-text-i-eq10 : goal.returns-then-text-i-eq10
-returns-then-text-i-eq10 c =
-    let l = c.loop-i in
-    line_stop c.args.text.now l.i c.loop-i-test.true c.if-text-i-eq10.true ∙ l.invariant.1
-
-pub loop-i-preserved : goal.loop-i-preserved
-loop-i-preserved c =
-    let l = c.loop-i in
-    let s = c.args.text.now in
-    (omega arith, line_on s l.i c.loop-i-test.true c.if-text-i-eq10.false ∙ l.invariant.1)
-
-pub returns : goal.returns
-returns c =
-    let l = c.loop-i in
-    line_none c.args.text.now l.i c.loop-i-test.false ∙ l.invariant.1
+pub returns-in-None : goal.returns-in-None
+returns-in-None c =
+    line_rest _ _ c.requires
+    (sym (position_from_yields_List is_newline _ _ _ c.position.ensures.ran (YieldsList-from_slice (drop c.args.at c.args.text.now) (c.iter.ensures.rest ∙ to_end c.args.text.now c.args.at)) (λ x b q k. search (rules, tests))) ∙ c.in-None.is)

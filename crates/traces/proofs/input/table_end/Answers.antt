@@ -9,15 +9,6 @@ use Rattle.traces.proofs.Places.{end_bytes, end_count, table_bytes_lem, table_co
 use Rattle.tables.proofs.FirstLine.{line_room, line_past}
 use Rattle.traces.proofs.input.table_end.Goals as goal
 
-pub loop-at-init : goal.loop-at-init
-loop-at-init c = (omega arith, omega arith, omega arith, omega arith)
-
-pub overflow_add-result : goal.overflow_add-result
-overflow_add-result c =
-    let l = c.loop-at in
-    let s = c.args.input.now in
-    omega arith
-
 pub returns-then-is_end : goal.returns-then-is_end
 returns-then-is_end c =
     let l = c.loop-at in

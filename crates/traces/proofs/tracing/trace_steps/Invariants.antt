@@ -1,13 +1,15 @@
--- `trace_steps` meets its contract. The invariant is `Turning (Going ..)`: what is left of the output, put where the step lines end, makes the whole; the lates are those of
--- the agents' current rows, and the deadline is above none of them. Assumes nothing.
-use Prim.Native.Nat.{◌-◌}
-use lib.ListN.{length}
-use Rattle.executive.proofs.RunOn.{Turning}
+-- `trace_steps` meets its contract: what the lines that are left give of the output, put where the step lines end, makes the whole, and the turns go on with the table
+-- that they began with. Assumes nothing.
+use Rattle.std.proofs.Common.{◌≡◌}
+use Rattle.choices.specs.Registers.{with_regs}
+use Rattle.executive.specs.InTurn.{InTurn}
 use Rattle.traces.proofs.Going.{Going}
 use Rattle.traces.proofs.tracing.trace_steps.Given as goal
 
-abbrev pub invariant-loop-at : goal.invariant-loop-at
-invariant-loop-at l = Turning (Going l.table l.choices l.initial.out l.out l.state l.regs l.n l.at l.end) l.table l.state l.lates l.deadline
-
-abbrev pub decreases-loop-at : goal.decreases-loop-at
-decreases-loop-at l = length l.choices - l.at
+abbrev pub invariant-loop-line : goal.invariant-loop-line
+invariant-loop-line l =
+    let s = l.turns in
+    (l.line-iterator.size ≡ 13)
+    × Going l.table l.choices l.initial.out l.out (with_regs s.state.now s.regs) l.n l.line-iterator.rest.now
+    × InTurn s.table.now s.state.now s.regs s.lates s.deadline
+    × (s.table.now ≡ l.table)

@@ -1,20 +1,13 @@
 -- `put_last_line` meets its contract: four runs of stores, each where the one before it ends. Assumes nothing.
 use native.Mathlib.Omega.{arith}
-use mathlib.Core.Path.{refl, ◌∙◌}
+use mathlib.Core.Path.{refl}
 use mathlib.Core.List.{[], ◌∷◌, ◌++◌}
 use Prim.Native.Nat.{◌+◌}
-use lib.ListN.{set, length-set}
+use lib.ListN.{set}
 use Rattle.digits.specs.Hex.{hex_digits}
 use Rattle.traces.specs.Output.{last_line}
 use Rattle.digits.proofs.Writes.{digits_then}
 use Rattle.traces.proofs.writing.put_last_line.Goals as goal
-
-pub shape_of-out : goal.shape_of-out
-shape_of-out c =
-    length-set c.put_hex-3.new.out _ _
-    ∙ c.put_hex-3.auto.out
-    ∙ c.put_hex-2.auto.out
-    ∙ c.put_hex.auto.out
 
 pub returns : goal.returns
 unfolding last_line

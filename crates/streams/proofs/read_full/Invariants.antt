@@ -1,7 +1,7 @@
 -- What was read stands at the buffer's start, and is what the reader gave.
 use Rattle.std.proofs.Common.{length, ◌-◌, ◌≡◌, ◌≤◌, take}
 use Rattle.std.specs.Io.KnownBytes.{Consumes}
-use Rattle.trace.proofs.read_full.Given as goal
+use Rattle.streams.proofs.read_full.Given as goal
 
 abbrev pub invariant-loop-at : goal.invariant-loop-at
 invariant-loop-at g l =

@@ -1,0 +1,2 @@
+-- What a reader of this crate must believe.
+pub mod Tracing
