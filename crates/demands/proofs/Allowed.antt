@@ -1,6 +1,7 @@
 -- Reply 0 is given exactly where the model allows the step, of any published system.
+use Rattle.std.proofs.lemmas.Bool.{false_from_ne_true}
 use mathlib.Core.Path.{◌≡◌, refl, sym, ◌∙◌}
-use mathlib.Core.Bool.{Bool, true, false, true≢false}
+use mathlib.Core.Bool.{false, true≢false}
 use mathlib.Core.Logic.{◌↔◌, ◌⊎◌, inl, inr, by_cases}
 use Prim.Native.Nat.{ℕ, ◌<◌}
 use native.Mathlib.Decide.{dec_lt}
@@ -13,10 +14,6 @@ use Rattle.demands.specs.Reasons.{ModelAllows, Reply, ZeroIsAllowed}
 past : {P Q : Type 0} {k : ℕ} → 0 < k → (P × (0 ≡ k)) ⊎ Q → Q
 past l (inl x) = absurd (omega (arith, x.1))
 past l (inr y) = y
-
-unended : (b : Bool) → (b ≡ true → ⊥) → b ≡ false
-unended true n = absurd (n refl)
-unended false n = refl
 
 module _ {T : Types} where
   open T use {agents, ended}
@@ -41,7 +38,7 @@ module _ {T : Types} where
           let (after, r) = past (omega arith) r in
           let (begun, r) = past (omega arith) r in
           let (due, _) = past (omega arith) r in
-          allowed (omega arith) (unended _ live) (record { after = omega arith; begun = omega arith; fits = λ b l n. by_cases (dec_lt (instr_of T b (g.st b)).late t) (λ over. absurd (due (b, l, n, omega arith))) (λ over. omega arith) })
+          allowed (omega arith) (false_from_ne_true _ live) (record { after = omega arith; begun = omega arith; fits = λ b l n. by_cases (dec_lt (instr_of T b (g.st b)).late t) (λ over. absurd (due (b, l, n, omega arith))) (λ over. omega arith) })
 
       from : ModelAllows g a t → Reply g a t 0
       from r =

@@ -1,7 +1,8 @@
 -- The tests of a choice stand for the model's reasons, one by one, so its reply is the number of the first.
+use Rattle.std.proofs.lemmas.Bool.{or_parts}
 use mathlib.Core.Path.{◌≡◌, refl, sym, ◌∙◌}
 use mathlib.Core.Logic.{◌⊎◌, inl, inr}
-use mathlib.Core.Bool.{Bool, true, false, not, ◌||◌, cond, true≢false}
+use mathlib.Core.Bool.{Bool, true, false, not, cond, true≢false}
 use mathlib.Core.List.{List, [], ◌∷◌}
 use Prim.Native.Nat.{ℕ, ◌<◌}
 use native.Mathlib.Omega.{arith}
@@ -35,17 +36,13 @@ tested_first (test {v} {P} {k} {rs} {ps} holds fails rest) = go v refl (λ e. te
     go true e next = inl (holds e, rw e)
     go false e next = inr (fails e, rw e (next e))
 
-neither : (v w : Bool) → (v || w) ≡ false → (v ≡ false) × (w ≡ false)
-neither true w e = absurd (true≢false e)
-neither false w e = (refl, e)
-
 -- a time that is not in time is above some unfinished agent's late, and the other way round
 module _ (tb st : List ℕ) (good : good_table tb ≡ true) (t : ℕ) where
   overdue : in_time tb st t ≡ false → Overdue (decode tb st) t
   unfolding in_time unfinished
   overdue e =
       let (b, h, fails) = some_fails (agents tb) _ e in
-      let (live, late) = neither (not (ltb (pos st b) (rows tb b))) (leb t (current tb st b).late) fails in
+      let (live, late) = or_parts (not (ltb (pos st b) (rows tb b))) (leb t (current tb st b).late) fails in
       let in_words = state_low tb st b (low tb st good h) in
       (b, h, rw in_words (lt-leb (rows tb b) (pos st b) (ltb-true (pos st b) (rows tb b) (not-false _ live))), rw in_words (leb-false _ _ late))
 

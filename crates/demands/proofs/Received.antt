@@ -14,8 +14,8 @@ use Rattle.tables.specs.Table.{good_table}
 use Rattle.tables.specs.declared.Row.{Row}
 use Rattle.tables.proofs.Tests.{and_both}
 use Rattle.tables.proofs.Passed.{and_1, and_2}
-use Rattle.choices.specs.declared.Best.{Best}
-use Rattle.choices.specs.declared.Best.TheVariants.{Nothing, Message}
+use Rattle.choices.specs.declared.Message.{Message}
+use Rattle.std.specs.Prelude.{Option as Maybe, None, Some}
 use Rattle.choices.specs.State.{mark, value, pool}
 use Rattle.choices.specs.Messages.{visible, best}
 use Rattle.tables.proofs.Good.{few}
@@ -65,10 +65,10 @@ module _ (tb st : List ℕ) (good : good_table tb ≡ true) (f : Fits tb st) (r 
   before (lower e l) = inr (sym e, inl l)
   before (higher e same l) = inr (sym e, inr (same, l))
 
-  taken_gets : (m : Best) → Taken tb (pool st) r m → r.op ≡ 0x30 → Received (published tb) (sent_of st) (dated r) (value_of m)
-  taken_gets Nothing no_one op = nothing (λ b i v m. let (_, seen, l, _) = can_visible m in no_one b i m.agent l seen)
-  taken_gets (Message l b i v) (h, short, seen, _, told, ahead) op =
-      found (subst (Can b i) (sym told) (visible_can op h short seen))
+  taken_gets : (m : Maybe Message) → Taken tb (pool st) r m → r.op ≡ 0x30 → Received (published tb) (sent_of st) (dated r) (value_of m)
+  taken_gets None no_one op = nothing (λ b i v m. let (_, seen, l, _) = can_visible m in no_one b i m.agent l seen)
+  taken_gets (Some g) (h, short, seen, _, told, ahead) op =
+      found (subst (Can g.agent g.row) (sym told) (visible_can op h short seen))
       (λ c j w m goes. let (_, seen, l, _) = can_visible m in ahead c j m.agent l seen (before goes))
 
   -- A RECV gets the message that the executive takes,

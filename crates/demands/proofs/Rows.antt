@@ -14,8 +14,8 @@ use Rattle.tables.specs.Basics.{OneOf}
 use Rattle.tables.specs.Rows.{goes_on_to}
 use Rattle.tables.specs.declared.Row.{Row}
 use Rattle.choices.specs.declared.Agent.{Agent}
-use Rattle.choices.specs.declared.Best.{Best}
-use Rattle.choices.specs.declared.Best.TheVariants.{Nothing, Message}
+use Rattle.choices.specs.declared.Message.{Message}
+use Rattle.std.specs.Prelude.{Option as Maybe, None, Some}
 use Rattle.choices.specs.Effect.{go_to, after}
 use Rattle.choices.proofs.Onward.{after_goes}
 use Rattle.demands.specs.Demand2.{RowsAreModels}
@@ -70,12 +70,12 @@ module _ (r : Row) where
 -- ---- the effect
 
 -- what a receive gets of the message that the executive takes
-abbrev pub value_of : Best → Option ℕ
-value_of Nothing = none
-value_of (Message l b i v) = some v
+abbrev pub value_of : Maybe Message → Option ℕ
+value_of None = none
+value_of (Some m) = some m.value
 
 -- the message matters to a RECV alone
-pub after_other : (r : Row) (m : Best) (s : Agent) → r.op ≢ 0x30 → after r Nothing s ≡ after r m s
+pub after_other : (r : Row) (m : Maybe Message) (s : Agent) → r.op ≢ 0x30 → after r None s ≡ after r m s
 unfolding after
 after_other r m s other = rw (ne_eqb r.op 0x30 other)
 
@@ -93,13 +93,13 @@ rows_are_models r s other =
     rw (sub_first x y, ones_bits y, low_first y, skips (eqb x 0) r.n s, ne_eqb r.op 0x30 other, on)
 
 module _ (T : List ℕ) (a : ℕ) (s : Agent) (msgs : Messages) where
-  effect_kind : {r : Row} {i : Instruction Agent} (m : Best) → Kind r i → (exec_ins (published T) a s msgs (value_of m) i).0 ≡ after r m s
+  effect_kind : {r : Row} {i : Instruction Agent} (m : Maybe Message) → Kind r i → (exec_ins (published T) a s msgs (value_of m) i).0 ≡ after r m s
   effect_kind {r} m (sends op) = ap (λ (p : ℕ). go_to p s) (add-zero (s.pos + 1)) ∙ sym (send_is_on r m s op)
-  effect_kind {r} Nothing (receives op) = sym (receive_none r Nothing s op refl)
-  effect_kind {r} (Message l b i v) (receives op) = sym (receive_found l b i v r (Message l b i v) s op refl)
+  effect_kind {r} None (receives op) = sym (receive_none r None s op refl)
+  effect_kind {r} (Some m) (receives op) = sym (receive_found m r (Some m) s op refl)
   effect_kind {r} m (others p q) = rows_are_models r s q ∙ after_other r m s q
 
-  pub effect : (r : Row) (m : Best) → (exec_ins (published T) a s msgs (value_of m) (instruction_of r)).0 ≡ after r m s
+  pub effect : (r : Row) (m : Maybe Message) → (exec_ins (published T) a s msgs (value_of m) (instruction_of r)).0 ≡ after r m s
   effect r m = effect_kind m (kind r)
 
   -- a SEND adds to the pool at its own row, and no other row touches it
@@ -115,5 +115,5 @@ module _ (T : List ℕ) (a : ℕ) (s : Agent) (msgs : Messages) where
 
   -- whatever is got, a row goes on at one of the rows that it can go on to
   pub goes_on_lem : (r : Row) (got : Option ℕ) → OneOf (exec_ins (published T) a s msgs got (instruction_of r)).0.pos (goes_on_to r s.pos)
-  goes_on_lem r none = rw (effect r Nothing) (after_goes r Nothing s)
-  goes_on_lem r (some v) = rw (effect r (Message 0 0 0 v)) (after_goes r (Message 0 0 0 v) s)
+  goes_on_lem r none = rw (effect r None) (after_goes r None s)
+  goes_on_lem r (some v) = let m : Maybe Message = Some (record { late = 0; agent = 0; row = 0; value = v }) in rw (effect r m) (after_goes r m s)

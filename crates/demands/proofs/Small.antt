@@ -11,8 +11,8 @@ use Rattle.tables.specs.declared.Row.{Row}
 use Rattle.tables.specs.Layout.{agents, row, row_of, row_place}
 use Rattle.tables.proofs.Small.{small_cons, small_append, small_zeros, small_drop, small_take, small_set, small_sets}
 use Rattle.choices.specs.declared.Agent.{Agent}
-use Rattle.choices.specs.declared.Best.{Best}
-use Rattle.choices.specs.declared.Best.TheVariants.{Nothing, Message}
+use Rattle.choices.specs.declared.Message.{Message}
+use Rattle.std.specs.Prelude.{Option as Maybe, None, Some}
 use Rattle.choices.specs.State.{pool, agent_at, start_words, pos_place, reg_place, mark_place, value_place}
 use Rattle.choices.specs.Messages.{best}
 use Rattle.choices.specs.Effect.{after}
@@ -37,15 +37,15 @@ ones_small y = let m = ones_most 32 y in omega arith
 low_small : (y : ℕ) → Word (count_trailing_zeros 32 y)
 low_small y = let m = trailing_le 32 y in omega arith
 
-after_small : (r : Row) (s : Agent) → Word r.k → Small s.regs → (m : Best) → Carries Word m → Small (after r m s).regs
+after_small : (r : Row) (s : Agent) → Word r.k → Small s.regs → (m : Maybe Message) → Carries Word m → Small (after r m s).regs
 after_small r s k regs m c =
     after_made (λ g. Small g.regs) Word r s (λ x v h. small_set s.regs x v regs h) (λ p. regs) k remainder_small ones_small low_small m c
 
 -- ---- a step
 
-carried : (tb st : List ℕ) (r : Row) → Small st → (m : Best) → Taken tb (pool st) r m → Carries Word m
-carried tb st r s Nothing t = tt
-carried tb st r s (Message l b i v) t = rw t.4 (s.word (value_place b i))
+carried : (tb st : List ℕ) (r : Row) → Small st → (m : Maybe Message) → Taken tb (pool st) r m → Carries Word m
+carried tb st r s None t = tt
+carried tb st r s (Some m) t = rw t.4 (s.word (value_place m.agent m.row))
 
 module _ (tb st : List ℕ) (few : agents tb ≤ 16) (table : Small tb) (state : Small st) (a t : ℕ) (time : Word t) where
   abbrev s : Agent

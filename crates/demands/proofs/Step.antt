@@ -14,8 +14,8 @@ use Rattle.pharos.specs.Published.{except, GoodNextTime, Received, exec, execute
 use Rattle.tables.specs.Layout.{agents, rows}
 use Rattle.tables.specs.Table.{good_table}
 use Rattle.choices.specs.declared.Agent.{Agent}
-use Rattle.choices.specs.declared.Best.{Best}
-use Rattle.choices.specs.declared.Best.TheVariants.{Nothing}
+use Rattle.choices.specs.declared.Message.{Message}
+use Rattle.std.specs.Prelude.{Option as Maybe, None}
 use Rattle.choices.specs.State.{pos, pool, agent_at}
 use Rattle.choices.specs.Messages.{best}
 use Rattle.choices.specs.Effect.{after}
@@ -113,7 +113,7 @@ module _ (tb st : List ℕ) (good : good_table tb ≡ true) (long : length st �
   Does = executes (published tb) a (decode tb st) (decode tb new)
 
   -- where the model's receive gets what the message m is to the executive
-  by_message : (m : Best) → Received (published tb) (sent_of st) (dated (current tb st a)) (value_of m)
+  by_message : (m : Maybe Message) → Received (published tb) (sent_of st) (dated (current tb st a)) (value_of m)
       → after (current tb st a) m (agent_at st a) ≡ next tb st a → Does
   by_message m received same =
       let in_words = state_low tb st a low_agent in
@@ -132,4 +132,4 @@ module _ (tb st : List ℕ) (good : good_table tb ≡ true) (long : length st �
       let m = best tb (pool st) (current tb st a) in
       by_cases (ℕ_discrete (current tb st a).op 0x30)
       (λ op. by_message m (gets tb st good f (current tb st a) op) refl)
-      (λ other. by_message Nothing (gets_none tb st good f (current tb st a) other) (after_other (current tb st a) m (agent_at st a) other))
+      (λ other. by_message None (gets_none tb st good f (current tb st a) other) (after_other (current tb st a) m (agent_at st a) other))

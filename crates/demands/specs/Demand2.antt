@@ -1,13 +1,12 @@
 -- Demand 2: the executive's words are the published model's system, and its steps are that model's steps.
 -- The statements; proofs/Demand2 proves those of words of their full length, proofs/Call those of the public calls.
-use Rattle.std.specs.Prelude.{◌≡◌, true, List, ◌↔◌, ◌≢◌, ℕ, length}
+use Rattle.std.specs.Prelude.{◌≡◌, true, List, ◌↔◌, ◌≢◌, ℕ, None, length}
 use Rattle.pharos.specs.Published.{SystemState, executes, Init}
 use Rattle.tables.specs.Layout.{table_words}
 use Rattle.tables.specs.Table.{good_table}
 use Rattle.tables.specs.Calls.{check_reply}
 use Rattle.tables.specs.declared.Row.{Row}
 use Rattle.choices.specs.declared.Agent.{Agent}
-use Rattle.choices.specs.declared.Best.TheVariants.{Nothing}
 use Rattle.choices.specs.Effect.{after}
 use Rattle.choices.specs.State.{state_words, start_words}
 use Rattle.choices.specs.Fit.{fits}
@@ -32,7 +31,7 @@ pub record Fitting (tb st : List ℕ) : Type 0 where
 
 -- What a row that touches its agent alone does in the model, by 01's table, is what the executive's row does: SET, ADD, SUB, ONES, LOW, SKIP and JUMP.
 abbrev pub RowsAreModels : Type 0
-RowsAreModels = (r : Row) (s : Agent) → r.op ≢ 0x30 → local_row r s ≡ after r Nothing s
+RowsAreModels = (r : Row) (s : Agent) → r.op ≢ 0x30 → local_row r s ≡ after r None s
 
 -- A choice of agent a and time t.
 pub record Choice (tb st : List ℕ) (a t : ℕ) : Type 0 where
