@@ -48,15 +48,19 @@ fn number(rest: &str) -> Option<u64> {
 }
 
 /// `AGENT_ENDED` for `AgentEnded`.
-fn macro_name(reply: Reply) -> String {
+fn in_capitals(variant: &str) -> String {
     let mut name = String::new();
-    for letter in format!("{reply:?}").chars() {
+    for letter in variant.chars() {
         if letter.is_ascii_uppercase() && !name.is_empty() {
             name.push('_');
         }
         name.push(letter.to_ascii_uppercase());
     }
     name
+}
+
+fn macro_name(reply: Reply) -> String {
+    in_capitals(&format!("{reply:?}"))
 }
 
 /// The words without what is said in parentheses at their end.
@@ -134,15 +138,20 @@ fn every_number_of_the_header_is_here_and_none_is_missing() {
 
 #[test]
 fn the_proved_code_calls_the_replies_by_the_same_names() {
-    let constants = file("crates/tables/src/replies.rt");
-    let in_code: Vec<(&str, &str)> = constants
-        .lines()
-        .filter_map(|line| line.strip_prefix("pub const ")?.split_once(": u32 = "))
-        .map(|(name, number)| (name, number.trim_end_matches(';')))
-        .collect();
+    let replies = file("crates/tables/src/replies.rt");
+    // The accepted call's is a constant, and each refusal's the number of its variant.
+    let accepted = replies.lines().filter_map(|line| {
+        let (name, number) = line.strip_prefix("pub const ")?.split_once(": u32 = ")?;
+        Some((name.to_string(), number.trim_end_matches(';')))
+    });
+    let refusals = replies.lines().filter_map(|line| {
+        let (name, number) = line.trim().strip_suffix(',')?.split_once(" = ")?;
+        Some((in_capitals(name), number))
+    });
+    let in_code: Vec<(String, String)> =
+        accepted.chain(refusals).map(|(name, number)| (name, number.to_string())).collect();
     let expected = Reply::ALL.map(|reply| (macro_name(reply), reply.number().to_string()));
-    let expected = expected.each_ref().map(|(name, number)| (name.as_str(), number.as_str()));
-    assert_eq!(in_code, expected, "the constants, then this crate");
+    assert_eq!(in_code, expected, "the proved code, then this crate");
 }
 
 #[test]
