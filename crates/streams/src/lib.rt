@@ -63,6 +63,7 @@ pub fn trace_all<R: Read, W: Write>(reader: &mut R, writer: &mut W) -> Result<()
     ensures traced { OnOk result (TracesOnto (R.remaining reader.old) (R.remaining reader.new) (W.contents writer.old) (W.contents writer.new)) }
     ensures unread { IfErr result (λ f. KeepsWhereUnread f (W.contents writer.old) (W.contents writer.new)) }
 {
+    // Two buffers of the longest lengths, with the lengths that are used beside: fixed memory, and no heap.
     let mut input = filled::<u8, INPUT_ROOM>(0);
     let n = read_full(reader, &mut input).map_err(|e| Failure::Input(e))?;
     let mut out = filled::<u8, LONGEST_OUTPUT>(0);

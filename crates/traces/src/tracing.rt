@@ -70,7 +70,7 @@ impl From<Stopped> for Untraced {
     }
 }
 
-// The last line, after the step lines that end at this place.
+// The last line, after the step lines that end at this place, and what C is told of the whole.
 #[tactic(auto, using(crate::proofs::Steps::last_line_length))]
 pub fn finish(out: &mut [u8], at: usize, reply: u32, told: u32) -> TraceReply
     requires { at + 9 ≤ length out.old }
