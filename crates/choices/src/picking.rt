@@ -16,7 +16,7 @@ pub fn picked_agent(table: &[u32], state: &[u32]) -> Option<usize>
     ensures { MatchOption result (Pick.all_ended table.now state.now ≡ true) (λ a. Picks table.now state.now a) }
 {
     let lates = load_lates(table, state);
-    // No Option in the loop, which would keep its tag in each of the 16 turns (138 instructions in place of 94), and no `min_by_key`, which makes one too (141).
+    // Tried: no Option in the loop, which would keep its tag in each of the 16 turns (138 instructions in place of 94), and no `min_by_key`, which makes one too (141).
     let mut first = 0;
     let mut least = NO_LATE;
     for (a, &late) in lates.iter().enumerate() {

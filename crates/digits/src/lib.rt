@@ -19,7 +19,7 @@ fn hex_char(d: u32) -> u8
     b"0123456789ABCDEF"[d as usize]
 }
 
-// The k lowest digits of m, the highest first.
+// The k lowest digits of m, the highest first; by their places, since over `iter_mut().rev()` a proof loses which is put where.
 pub fn put_hex(out: &mut [u8], at: usize, k: usize, m: u32)
     requires { at + k ≤ length out.old }
     ensures { out.new ≡ sets out.old at (hex_digits k m) }

@@ -23,7 +23,7 @@ pub fn store_registers(state: &mut [u32], g: [[u32; REGISTERS]; MOST_AGENTS])
     requires { state_words ≤ length state.old }
     ensures { state.new ≡ with_regs state.old g }
 {
-    // Word by word: `copy_from_slice(g.as_flattened())` moves the same 64 words, but its proof did not close, since nothing known of g says that each of its arrays is of 4.
+    // Word by word: `copy_from_slice(g.as_flattened())` moves the same 64 words, but its proof against `with_regs` did not close.
     for j in 0..ALL_REGISTERS {
         state[REGISTERS_AT + j] = g[j / REGISTERS][j % REGISTERS];
     }

@@ -17,6 +17,7 @@ pub fn take_choices(table: &[u32], state: &mut [u32], choices: &[u32]) -> Result
     ensures { ended (ran_of result).reply (ran_of result).count state.new ≡ run_from table.now state.old 0 choices.now }
 {
     let mut turns = Turns::begin(table, state);
+    // Counted beside the loop: it is told in 32 bits, also after the last choice, where `enumerate` would have lost it.
     let mut count: u32 = 0;
     // In pairs, and not by a slice pattern: that takes two instructions more a choice.
     let (pairs, _) = choices.as_chunks::<2>();

@@ -18,7 +18,8 @@ use tables::replies::Refusal;
 
 // A table and the words of a state. The registers stand beside them until the turns end, and so do the lates of the agents' current rows:
 // two arrays by the agent's number, and not one of records, so that each is loaded, compared and stored in vector registers.
-// The deadline is the last one that was worked out.
+// The deadline is the last one that was worked out. What holds of them between two choices is `InTurn`, which `take` asks and keeps, and no ghost field:
+// through the state's `&mut` that would have to hold at each write.
 #[derive(Drop)]
 pub struct Turns<'t, 's> {
     table: &'t [u32],

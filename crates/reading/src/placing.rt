@@ -40,6 +40,7 @@ fn out_of_place(n: u32) -> Result<(), Refused>
 pub fn in_place(text: &[u8]) -> Result<(), Refused>
     ensures { told_of result ≡ in_place 1 0 0 (frames_of text.now) }
 {
+    // The line's number as it is told, in 32 bits, also past the last line; `enumerate` counts from 0 in another type.
     let mut n = 1;
     let mut a = 0;
     let mut i = 0;

@@ -37,6 +37,7 @@ fn take_rows(text: &[u8], table: &mut [u32]) -> Result<(), Refused>
     requires { ((in_place 1 0 0 (frames_of text.now)).reply ≡ 0) × (length table.old ≡ table_words) × ((k : ℕ) → k < table_words → get_or table.old k 0 ≡ 0) }
     ensures { (told_of result ≡ rows_good 1 0 0 (frames_of text.now)) × ((told_of result).reply ≡ 0 → table.new ≡ table_of (frames_of text.now)) }
 {
+    // The line's number as it is told, in 32 bits; `enumerate` counts from 0 in another type.
     let mut n = 1;
     let mut a = 0;
     let mut c = 0;

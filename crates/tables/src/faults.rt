@@ -64,8 +64,9 @@ pub fn judge_line(text: &[u8], at: usize, known: &[usize]) -> Result<(), Fault>
     ensures { result ≡ judge known.now (line_from text.now at) }
 {
     let line = &text[at..];
-    match digits_first(line) {
-        Some(digits) if line[digits] == b'\n' => judge_kind(line, digits, known),
-        _ => Err(Fault::Character),
+    let digits = digits_first(line).ok_or(Fault::Character)?;
+    if line[digits] != b'\n' {
+        return Err(Fault::Character);
     }
+    judge_kind(line, digits, known)
 }

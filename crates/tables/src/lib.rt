@@ -2,9 +2,9 @@
 // Everything above relies only on what this crate promises.
 #![tactic(auto)]
 
-pub mod replies; // replies.rt: the numbers of the replies
+pub mod replies; // replies.rt: why a call refuses, and the numbers of the replies
 pub mod layout; // layout.rt: where each thing stands in the words of a table
-pub mod words; // words.rt: words that are 0, made 0, or taken from others
+pub mod words; // words.rt: words that are 0, or taken from others; an array of one value
 pub mod rows; // rows.rt: a row of a table, its family, and replies 4 to 6
 pub mod climbing; // climbing.rt: reply 7, a row that goes on to an earlier window
 pub mod checking; // checking.rt: the check of a table's words, reply 8

@@ -26,7 +26,7 @@ pub const JUMP: u32 = 0x11;
 
 pub const SEND: u32 = 0x20;
 
-// The family that an op is in: the one place where an op's number is matched.
+// The family that an op is in.
 impl From<u32> for Family {
     ghost from_gives = { λ op f. f ≡ family_of op };
 

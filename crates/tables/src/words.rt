@@ -11,7 +11,7 @@ pub fn all_zero(ws: &[u32], i: usize, j: usize) -> bool
 }
 
 // Words of the same number take the place of others. `copy_from_slice` calls memmove where the two could overlap, and the archive takes memcpy and
-// memset alone (include/tannoplex.h).
+// memset alone (include/tannoplex.h); `to.iter_mut().zip(from)` is made a second loop that goes word by word.
 pub fn copy(from: &[u32], to: &mut [u32])
     requires { length to.old ≡ length from.now }
     ensures { to.new ≡ from.now }

@@ -12,7 +12,7 @@ use tables::frames::{END_BYTES, is_end};
 use tables::replies::Refusal;
 
 const CHOICE_DIGITS: usize = 12;
-// The one first byte that a choice line may have, and the digits of the line.
+// The one first byte that a choice line may have, and the digits of the line: a flat list, as `judge_line` takes and `known_in_choices` is.
 const KNOWN_IN_CHOICES: [usize; 2] = [0x02, CHOICE_DIGITS];
 // Where the time stands in a choice line, after the agent.
 pub const TIME_AT: usize = 4;
@@ -44,7 +44,7 @@ pub fn table_end(input: &[u8]) -> TableEnd
 {
     let mut at = 0;
     let mut count: u32 = 0;
-    // Lines of several widths: no `for` steps from one to the next.
+    // Lines of several widths. `split_inclusive` would give each, and the place and the count, which are what is returned, would be added up by hand all the same.
     while at < input.len() {
         if is_end(input, at) {
             return TableEnd {
@@ -71,6 +71,7 @@ pub fn first_bad_choice(input: &[u8], at: usize, line: u32) -> Result<(), Refuse
     requires { (at ≤ length input.now) × (line + length input.now < 2 ^ 32) }
     ensures { told_of result ≡ bad_choice line (lines (drop at input.now)) }
 {
+    // The line's number as it is told, in 32 bits; `enumerate` counts from 0 in another type.
     let mut n = line;
     for p in (at..input.len()).step_by(CHOICE_BYTES) {
         if let Err(fault) = judge_choice(input, p) {

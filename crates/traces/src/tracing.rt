@@ -92,6 +92,7 @@ pub fn trace_steps(choices: &[u8], table: &[u32], out: &mut [u8]) -> Result<u32,
     let mut state = filled::<u32, STATE_WORDS>(0);
     put_start(table, &mut state);
     let mut turns = Turns::begin(table, &mut state);
+    // Counted beside the loop: it is told in 32 bits, also after the last line, where `enumerate` would have lost it.
     let mut n: u32 = 0;
     for line in choices.chunks_exact(CHOICE_BYTES) {
         let a = field(line, AGENT_AT, 2);
