@@ -1,6 +1,6 @@
 -- One place looked at, where the lates that go before the best so far are those from a least one on. Assumes nothing.
 use Rattle.std.proofs.Common.{◌≡◌, ℕ, ◌+◌, ◌<◌, ◌≤◌, Bool, true, false, cond, ◌&&◌, eqb, ltb, leb, List, sym, refl, ap, ◌∙◌, add-one, arith, ltb-true, le-ltb, lt-ltb, eq-eqb, ne_eqb, le-leb, Option, None, Some}
-use mathlib.Core.Bool.{and_comm}
+use mathlib.Core.Bool.{and-true, and_comm}
 use native.Mathlib.Decide.{dec_lt, ℕ_discrete}
 use borrow.Author.Tests.{lt-leb}
 use Rattle.tables.specs.Layout.{row}
@@ -60,6 +60,10 @@ module _ (tb : List ℕ) (p : Pool) (r : Row) (b i least : ℕ) where
   unfolding visible
   too_late h =
       sym (and_right (leb least late) (visible tb p r b i) (and_right (eqb (p.mark b i) 1 && eqb (row tb b i).k r.k) (ltb late r.early) (le-ltb _ _ h)))
+
+  pub sent : least ≤ late → late < r.early → p.mark b i ≡ 1 → Better (eqb (row tb b i).k r.k)
+  unfolding visible
+  sent h l e = rw (le-leb _ _ h, eq-eqb _ _ e, lt-ltb _ _ l) (sym (and-true (eqb (row tb b i).k r.k)))
 
   seen_early : visible tb p r b i ≡ true → late < r.early
   unfolding visible
