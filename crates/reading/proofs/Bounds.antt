@@ -12,7 +12,8 @@ use Rattle.tables.specs.Basics.{first, ◌⇒◌, Rule}
 use Rattle.tables.specs.Rows.{row_reply}
 use Rattle.tables.specs.Faults.{fault_reply}
 use Rattle.tables.specs.Frames.{Frame, opens, gives, ends, malformed, frames_of}
-use Rattle.reading.specs.Reader.{told, none_left, end_rules, told_by, in_place, rows_next, row_in, rows_good, rows_climb, first_told, agents_climb, table_climbs, frames_reply, table_of}
+use Rattle.tables.specs.Layout.{row_in}
+use Rattle.reading.specs.Reader.{told, none_left, end_rules, told_by, in_place, rows_next, rows_good, rows_climb, first_told, agents_climb, table_climbs, frames_reply, table_of}
 use Rattle.tables.specs.Layout.{agents, rows, table_words}
 use Rattle.tables.specs.Table.{climbs}
 use Rattle.reading.specs.Calls.{Read, ReadOutcome, read_into}

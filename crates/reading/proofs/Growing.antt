@@ -8,7 +8,7 @@ use borrow.Author.Count.{below_more}
 use Rattle.tables.specs.Layout.{count_place, rows, row, row_place, start_place, table_words}
 use Rattle.tables.specs.Rows.{row_reply}
 use Rattle.tables.specs.Table.{row_reply_at}
-use Rattle.reading.specs.Reader.{row_in}
+use Rattle.tables.specs.Layout.{row_in}
 use Rattle.tables.specs.declared.Row.{Row}
 use Rattle.tables.proofs.Good.{Zero, AgentFacts, TableFacts}
 use Rattle.tables.proofs.Stored.{sets_in}

@@ -11,7 +11,8 @@ use Rattle.tables.specs.Rows.{row_reply}
 use Rattle.tables.specs.Table.{row_reply_at, good_table}
 use Rattle.tables.specs.Lines.{lines}
 use Rattle.tables.specs.Frames.{Frame, opens, gives, ends, malformed, four_words, frame_of, frames_of}
-use Rattle.reading.specs.Reader.{in_place, rows_next, row_in, rows_good, frames_reply, loaded, table_of}
+use Rattle.tables.specs.Layout.{row_in}
+use Rattle.reading.specs.Reader.{in_place, rows_next, rows_good, frames_reply, loaded, table_of}
 use Rattle.tables.specs.Calls.{Checked}
 use Rattle.tables.proofs.Zeros.{get_or-zeros}
 use Rattle.tables.proofs.TableLine.{Tells, tells}

@@ -9,7 +9,8 @@ use Rattle.tables.specs.Frames.{Frame, opens, gives, ends, malformed, frames_of}
 use Rattle.tables.specs.Heads.{head_line, line_at, words_at}
 use Rattle.tables.specs.Rows.{row_reply}
 use Rattle.tables.specs.declared.Row.{Row}
-use Rattle.reading.specs.Reader.{told, in_place, rows_next, row_in, rows_good}
+use Rattle.tables.specs.Layout.{row_in}
+use Rattle.reading.specs.Reader.{told, in_place, rows_next, rows_good}
 use Rattle.tables.specs.declared.frames.Line.TheVariants.{Opens, Gives}
 use Rattle.tables.proofs.Heads.{Framed, framed, full, no_frames}
 use Rattle.reading.proofs.Places.{row_next}

@@ -1,14 +1,13 @@
 -- The reader of frames: replies 2, 18, 19 and 3 with their line, then 4 to 6, then 7, and the table's words. Assumes nothing.
-use Rattle.std.specs.Prelude.{Bool, true, false, not, ◌&&◌, List, [], ◌∷◌, Result, Ok, Err, ℕ, zero, suc, ◌+◌, ◌-◌, ltb, leb, eqb, get_or, set, replicate}
+use Rattle.std.specs.Prelude.{Bool, true, false, not, ◌&&◌, List, [], ◌∷◌, Result, Ok, Err, ℕ, zero, suc, ◌+◌, ◌-◌, ltb, leb, eqb, set, replicate}
 use Rattle.std.proofs.lemmas.List.Edits.{sets}
 use Rattle.tables.specs.Basics.{first, ◌⇒◌, Rule}
 use Rattle.tables.specs.Faults.{fault_reply}
 use Rattle.tables.specs.Frames.{Frame, opens, gives, ends, malformed}
-use Rattle.tables.specs.Layout.{agents, rows, row_of, agents_place, count_place, start_place, row_place, table_words}
+use Rattle.tables.specs.Layout.{agents, rows, row_in, agents_place, count_place, start_place, row_place, table_words}
 use Rattle.tables.specs.Replies.{number_of}
 use Rattle.tables.specs.Rows.{row_reply}
 use Rattle.tables.specs.Table.{climbs}
-use Rattle.tables.specs.declared.Row.{Row}
 use Rattle.tables.specs.declared.replies.Refusal.{Refusal}
 use Rattle.reading.specs.declared.Refused.{Refused}
 use Rattle.reading.specs.declared.Told.{Told}
@@ -97,10 +96,6 @@ rows_next (opens b ws ∷ fs) = 0
 rows_next (gives b ws ∷ fs) = suc (rows_next fs)
 rows_next (ends ∷ fs) = 0
 rows_next (malformed w ∷ fs) = 0
-
--- the row whose four words a frame gives
-abbrev pub row_in : List ℕ → Row
-row_in ws = row_of (get_or ws 0 0) (get_or ws 1 0) (get_or ws 2 0) (get_or ws 3 0)
 
 -- 4 to 6. Line n is next, in an agent of c rows of which i were taken.
 unfoldable pub rows_good : (n c i : ℕ) → List Frame → Told

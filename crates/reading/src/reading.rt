@@ -3,7 +3,7 @@ ghost use Rattle.std.specs.Prelude.{ℕ, ◌≡◌, true, ◌++◌, ◌≤◌, �
 ghost use Rattle.tables.specs.Frames.{frames_of};
 ghost use Rattle.tables.specs.Heads.{sound};
 ghost use Rattle.tables.specs.Layout.{row_from, table_words};
-ghost use Rattle.reading.specs.Reader.{told_of, in_place, rows_next, row_in, rows_good, table_of};
+ghost use Rattle.reading.specs.Reader.{told_of, in_place, rows_next, rows_good, table_of};
 ghost use Rattle.reading.specs.Calls.{Read};
 
 use crate::climbing::table_climbs;

@@ -42,6 +42,10 @@ row_of code k e l = record {
 abbrev pub row_from : RowWords → Row
 row_from w = row_of w.code w.k w.early w.late
 
+-- the row whose four words stand in a list
+abbrev pub row_in : List ℕ → Row
+row_in ws = row_of (get_or ws 0 0) (get_or ws 1 0) (get_or ws 2 0) (get_or ws 3 0)
+
 -- row i of agent a, taken apart
 abbrev pub row : List ℕ → ℕ → ℕ → Row
 row tb a i =

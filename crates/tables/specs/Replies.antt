@@ -1,5 +1,5 @@
 -- The number of each refusal, and the reply of a call that may refuse. Assumes nothing.
-use Rattle.std.specs.Prelude.{Result, Ok, Err, ℕ}
+use Rattle.std.specs.Prelude.{◌≡◌, Result, Ok, Err, ℕ}
 use Rattle.tables.specs.declared.replies.Refusal.{Refusal}
 use Rattle.tables.specs.declared.replies.Refusal.TheVariants.{BufferTooShort, BadCharacter, LineOutOfPlace, BadField, BadTarget, BadWindow, WindowGoesBack, BadTable, BadState, NoSuchAgent, AgentEnded, TimeBelowClock, TimeBelowEarly, TimeAboveLate, OddChoices, InputTooLong, BadLength, UnknownFirstByte, TextTooLong}
 
@@ -27,3 +27,7 @@ number_of TextTooLong = 20
 unfoldable pub reply : Result Unit Refusal → ℕ
 reply (Ok _) = 0
 reply (Err r) = number_of r
+
+-- No two results have one reply: what a clause says of the reply it says of the result.
+abbrev pub ReplyTells : Type 0
+ReplyTells = (r s : Result Unit Refusal) → reply r ≡ reply s → r ≡ s

@@ -1,6 +1,6 @@
 // A row of a table: its words taken apart, its family, and its refusal.
-ghost use Rattle.std.specs.Prelude.{◌≡◌, ◌≤◌, ◌<◌, length, get_or};
-ghost use Rattle.tables.specs.Layout.{rows, row, row_of, row_from, table_words};
+ghost use Rattle.std.specs.Prelude.{◌≡◌, ◌≤◌, ◌<◌, length};
+ghost use Rattle.tables.specs.Layout.{rows, row, row_in, row_from, table_words};
 ghost use Rattle.tables.specs.Family.{family_of};
 ghost use Rattle.tables.specs.Replies.{reply};
 ghost use Rattle.tables.specs.Rows.{well_formed, row_reply};
@@ -43,7 +43,7 @@ impl From<u32> for Family {
 }
 
 impl From<[u32; 4]> for RowWords {
-    ghost from_gives = { λ ws w. row_from w ≡ row_of (get_or ws 0 0) (get_or ws 1 0) (get_or ws 2 0) (get_or ws 3 0) };
+    ghost from_gives = { λ ws w. row_from w ≡ row_in ws };
 
     fn from(words: [u32; 4]) -> RowWords {
         let [code, k, early, late] = words;
