@@ -10,7 +10,8 @@ use crate::deadlines::{NO_LATE, load_lates};
 use crate::layout::{clock, position};
 use tables::rows::row_at;
 
-// The unfinished agent of the least late, of equal lates the lowest number; none where all have ended.
+// The unfinished agent of the least late, of equal lates the lowest number; none where all have ended. Not inlined: `pick` takes 272 bytes of stack so, and 448 with this in it.
+#[inline(never)]
 pub fn picked_agent(table: &[u32], state: &[u32]) -> Option<usize>
     requires { (length table.now ≡ table_words) × (length state.now ≡ state_words) × (good_table table.now ≡ true) }
     ensures { MatchOption result (Pick.all_ended table.now state.now ≡ true) (λ a. Picks table.now state.now a) }

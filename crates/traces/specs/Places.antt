@@ -6,6 +6,7 @@ use Rattle.std.proofs.lemmas.List.Edits.{sets}
 use Rattle.traces.specs.Output.{Traced, traced, last_line}
 use Rattle.tables.specs.Replies.{number_of}
 use Rattle.traces.specs.declared.tracing.Untraced.{Untraced}
+use Rattle.traces.specs.declared.TraceReply.{TraceReply}
 use Rattle.traces.specs.Calls.{TraceOutcome, trace_outcome}
 
 -- the rest q of an output, put into the buffer from a place on
@@ -29,6 +30,11 @@ last_of (Err u) = last u.steps (number_of u.refusal) u.told
 -- the last line put after the step lines, which stand at the start of the buffer
 abbrev pub ending : Last → List ℕ → TraceOutcome
 ending l out = placed (traced l.reply (last_line l.reply l.told)) (47 * l.steps) out
+
+-- a trace that stands whole in the buffer; or one that a refusal ends, to which the last line is to be put
+abbrev pub so_far : Result TraceReply Untraced → List ℕ → TraceOutcome
+so_far (Ok q) out = trace_outcome q.reply q.length out
+so_far (Err u) out = ending (last_of (Err u)) out
 
 -- a count of bytes at the start of a buffer, as a caller that lends that part has to know it
 pub record Counts (n : ℕ) (buffer : List ℕ) : Type 0 where

@@ -1,17 +1,17 @@
 // The trace program's work: from input bytes to output bytes, on slices.
 #![tactic(auto)]
 
-ghost use Rattle.std.specs.Prelude.{◌≡◌, ◌*◌, ◌≤◌, length};
+ghost use Rattle.std.specs.Prelude.{◌≡◌, ◌≤◌, IfErr, length};
 ghost use Rattle.traces.specs.Calls.{WroteTrace, longest_output, written};
 ghost use Rattle.traces.specs.Output.{trace_of};
-ghost use Rattle.traces.specs.Places.{Counts, Last, last_of, ending};
+ghost use Rattle.traces.specs.Places.{Counts, so_far};
 
 use crate::input::{first_bad_choice, table_end};
-use crate::tracing::{Untraced, finish, trace_steps};
+use crate::tracing::{Untraced, close, trace_steps};
 use crate::writing::{LAST_BYTES, STEP_BYTES};
 use reading::reading::read;
 use tables::layout::{MOST_AGENTS, MOST_ROWS, TABLE_WORDS};
-use tables::replies::{ACCEPTED, Refusal};
+use tables::replies::Refusal;
 use tables::words::filled;
 
 mod input; // input.rt: the table's text and the choice lines
@@ -31,11 +31,11 @@ pub struct TraceReply {
     pub length: usize,
 }
 
-// The step lines of an input, at the start of `out`: their count, or why they end before the last choice.
-fn put_steps(input: &[u8], out: &mut [u8]) -> Result<u32, Untraced>
+// The trace of an input, at the start of `out`; or why the input is refused before any step, where nothing is written.
+fn trace_input(input: &[u8], out: &mut [u8]) -> Result<TraceReply, Untraced>
     requires { longest_output ≤ length out.old }
-    ensures traced { ending (last_of result) out.new ≡ written (trace_of input.now) out.old }
-    ensures few { (last_of result).steps ≤ 512 }
+    ensures traced { so_far result out.new ≡ written (trace_of input.now) out.old }
+    ensures no_step { IfErr result (λ e. e.steps ≡ 0) }
 {
     if LONGEST_INPUT < input.len() {
         return Err(Untraced::from(Refusal::InputTooLong));
@@ -45,15 +45,7 @@ fn put_steps(input: &[u8], out: &mut [u8]) -> Result<u32, Untraced>
     let mut table = filled::<u32, TABLE_WORDS>(0);
     read(&input[..at], &mut table)?;
     first_bad_choice(input, at, end.lines + 1)?;
-    Ok(trace_steps(&input[at..], &table, out)?)
-}
-
-// Where the lines of so many steps end.
-fn steps_end(steps: u32) -> usize
-    requires { steps ≤ 512 }
-    ensures { result ≡ 47 * steps }
-{
-    STEP_BYTES * steps as usize
+    Ok(trace_steps(&input[at..], &table, out))
 }
 
 // The output for an input, at the start of `out`.
@@ -67,8 +59,8 @@ pub fn trace(input: &[u8], out: &mut [u8]) -> TraceReply
             length: 0,
         };
     }
-    match put_steps(input, out) {
-        Ok(count) => finish(out, steps_end(count), ACCEPTED, count),
-        Err(e) => finish(out, steps_end(e.steps), u32::from(e.refusal), e.told),
+    match trace_input(input, out) {
+        Ok(traced) => traced,
+        Err(e) => close(out, Err(e)),
     }
 }

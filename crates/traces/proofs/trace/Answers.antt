@@ -2,7 +2,7 @@
 use mathlib.Core.Path.{◌∙◌}
 use native.Mathlib.Omega.{arith}
 use Rattle.tables.specs.Replies.{number_of}
-use Rattle.traces.proofs.Whole.{too_short, whole}
+use Rattle.traces.proofs.Whole.{too_short, whole, counts}
 use Rattle.traces.proofs.trace.Goals as goal
 
 pub returns-then-out-lt-LONGEST_OUTPUT-clause-wrote : goal.returns-then-out-lt-LONGEST_OUTPUT-clause-wrote
@@ -10,7 +10,13 @@ unfolding number_of
 returns-then-out-lt-LONGEST_OUTPUT-clause-wrote c = rw c.from.ensures (too_short _ _ (omega arith))
 
 pub returns-in-Ok-clause-wrote : goal.returns-in-Ok-clause-wrote
-returns-in-Ok-clause-wrote c = whole _ _ (omega arith) _ _ _ (rw c.steps_end.ensures at c.finish.ensures ∙ c.in-Ok.ensures.traced)
+returns-in-Ok-clause-wrote c = whole _ _ (omega arith) _ _ _ c.in-Ok.ensures.traced
+
+pub returns-in-Ok-clause-counts : goal.returns-in-Ok-clause-counts
+returns-in-Ok-clause-counts c = counts _ _ _ _ _ c.in-Ok.ensures.traced
 
 pub returns-in-Err-clause-wrote : goal.returns-in-Err-clause-wrote
-returns-in-Err-clause-wrote c = whole _ _ (omega arith) _ _ _ (rw (c.from-in-Err.ensures, c.steps_end-in-Err.ensures) at c.finish-in-Err.ensures ∙ c.in-Err.ensures.traced)
+returns-in-Err-clause-wrote c = whole _ _ (omega arith) _ _ _ (c.close.ensures ∙ c.in-Err.ensures.traced)
+
+pub returns-in-Err-clause-counts : goal.returns-in-Err-clause-counts
+returns-in-Err-clause-counts c = counts _ _ _ _ _ (c.close.ensures ∙ c.in-Err.ensures.traced)

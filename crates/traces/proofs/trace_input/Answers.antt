@@ -1,4 +1,4 @@
--- `put_steps` meets its contract: a law for each return, by what the input is refused for first. Assumes nothing.
+-- `trace_input` meets its contract: a law for each return, by what the input is refused for first. Assumes nothing.
 use mathlib.Core.Path.{◌≡◌, refl, sym, ap, ◌∙◌}
 use mathlib.Core.List.{List}
 use Prim.Native.Nat.{ℕ, ◌-◌}
@@ -17,8 +17,8 @@ use Rattle.traces.proofs.Newline.{to_end}
 use Rattle.traces.proofs.Parts.{trace_long}
 use Rattle.traces.proofs.Whole.{one_line}
 use Rattle.traces.proofs.Table.{Reading, table_refused, table_good, table_words_lem, choice_faulty, none_faulty, all_steps}
-use Rattle.traces.proofs.put_steps.Goals as goal
-use Rattle.traces.proofs.put_steps.Goals.{In_ok-read, In_ok-first_bad_choice}
+use Rattle.traces.proofs.trace_input.Goals as goal
+use Rattle.traces.proofs.trace_input.Goals.{In_ok-read, In_ok-first_bad_choice}
 
 pub returns-then-input-gt-LONGEST_INPUT-clause-traced : goal.returns-then-input-gt-LONGEST_INPUT-clause-traced
 unfolding number_of
@@ -67,13 +67,7 @@ steps_are c r =
     ap (λ (l : List ℕ). written (trace_from tb (start_words tb) 0 (choices_in (lines l))) c.args.out.now) (to_end s c.table_end-end.result.at)
     ∙ ap (λ (q : Traced). written q c.args.out.now) (sym (all_steps r refl c.in_ok-first_bad_choice.ensures refl))
 
-pub returns-in_err-trace_steps-clause-traced : goal.returns-in_err-trace_steps-clause-traced
-returns-in_err-trace_steps-clause-traced c =
-    let at = goal.at.returns-in_err-trace_steps-clause-traced c in
-    let p = err_from_is_err_and c.from_residual-in_err-trace_steps.result c.from_residual-in_err-trace_steps.ensures.1 in
-    rw (p.1, p.2) (c.in_err-trace_steps.ensures.traced ∙ steps_are at.In_ok-first_bad_choice (reading at.In_ok-read))
-
 pub returns-clause-traced : goal.returns-clause-traced
 returns-clause-traced c =
     let at = goal.at.returns-clause-traced c in
-    c.in_ok-trace_steps.ensures.traced ∙ steps_are at.In_ok-first_bad_choice (reading at.In_ok-read)
+    c.trace_steps.ensures ∙ steps_are at.In_ok-first_bad_choice (reading at.In_ok-read)

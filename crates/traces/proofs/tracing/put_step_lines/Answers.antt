@@ -14,8 +14,8 @@ use Rattle.choices.specs.Registers.{with_regs}
 use Rattle.choices.proofs.Choosing.{whole_length}
 use Rattle.executive.proofs.RunOn.{takes_ok, takes_err}
 use Rattle.traces.proofs.Going.{digits, refused, one_more, on, none_more, all_written, begin, few_steps}
-use Rattle.traces.proofs.tracing.trace_steps.Goals as goal
-use Rattle.traces.proofs.tracing.trace_steps.Goals.{In-Some}
+use Rattle.traces.proofs.tracing.put_step_lines.Goals as goal
+use Rattle.traces.proofs.tracing.put_step_lines.Goals.{In-Some}
 
 -- a turn takes one line of 13 bytes off the front
 cut : (c : In-Some) → c.loop-line.line-iterator.rest.now ≡ c.in-Some.line.now ++ c.next.new.self.rest.now
