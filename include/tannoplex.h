@@ -94,8 +94,8 @@ extern "C" {
 /* The version: the numbers for #if, and the text of them. CHANGELOG.md says what each brought. */
 #define TANNOPLEX_VERSION_MAJOR 0
 #define TANNOPLEX_VERSION_MINOR 6
-#define TANNOPLEX_VERSION_PATCH 2
-#define TANNOPLEX_VERSION "0.6.2"
+#define TANNOPLEX_VERSION_PATCH 3
+#define TANNOPLEX_VERSION "0.6.3"
 
 /* Sizes. */
 #define TANNOPLEX_TABLE_WORDS 2129

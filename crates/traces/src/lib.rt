@@ -7,7 +7,7 @@ ghost use Rattle.traces.specs.Output.{trace_of};
 ghost use Rattle.traces.specs.Places.{Counts, so_far};
 
 use crate::input::{first_bad_choice, table_end};
-use crate::tracing::{Untraced, close, trace_steps};
+use crate::tracing::{Untraced, finish, trace_steps};
 use crate::writing::{LAST_BYTES, STEP_BYTES};
 use reading::reading::read;
 use tables::layout::{MOST_AGENTS, MOST_ROWS, TABLE_WORDS};
@@ -61,6 +61,6 @@ pub fn trace(input: &[u8], out: &mut [u8]) -> TraceReply
     }
     match trace_input(input, out) {
         Ok(traced) => traced,
-        Err(e) => close(out, Err(e)),
+        Err(e) => finish(out, 0, u32::from(e.refusal), e.told),
     }
 }

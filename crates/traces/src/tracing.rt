@@ -8,7 +8,7 @@ ghost use Rattle.executive.specs.Replies.{ran_of};
 ghost use Rattle.traces.specs.Input.{bad_choice, choices_in};
 ghost use Rattle.traces.specs.Output.{traced, last_line, trace_from};
 ghost use Rattle.traces.specs.Calls.{trace_outcome, longest_output, written};
-ghost use Rattle.traces.specs.Places.{placed, last, last_of, ending};
+ghost use Rattle.traces.specs.Places.{placed, last, ending};
 
 use crate::TraceReply;
 use crate::input::{CHOICE_BYTES, TIME_AT};
@@ -91,27 +91,18 @@ fn steps_end(steps: u32) -> usize
     STEP_BYTES * steps as usize
 }
 
-// The last line, after the step lines at the start of `out`, of a trace that ended so.
-pub fn close(out: &mut [u8], end: Result<u32, Untraced>) -> TraceReply
-    requires { (longest_output ≤ length out.old) × ((last_of end).steps ≤ 512) }
-    ensures { trace_outcome result.reply result.length out.new ≡ ending (last_of end) out.old }
-{
-    match end {
-        Ok(count) => finish(out, steps_end(count), ACCEPTED, count),
-        Err(e) => finish(out, steps_end(e.steps), u32::from(e.refusal), e.told),
-    }
-}
-
 // The steps of the choice lines, none of which has a fault, from the start state of a good table: the rest of a trace.
 pub fn trace_steps(choices: &[u8], table: &[u32], out: &mut [u8]) -> TraceReply
     requires { (length table.now ≡ table_words) × (good_table table.now ≡ true) × ((bad_choice 1 (lines choices.now)).reply ≡ 0) × (longest_output ≤ length out.old) }
     ensures { trace_outcome result.reply result.length out.new ≡ written (trace_from table.now (start_words table.now) 0 (choices_in (lines choices.now))) out.old }
 {
-    let end = put_step_lines(choices, table, out).map_err(|stopped| Untraced::from(stopped));
-    close(out, end)
+    match put_step_lines(choices, table, out).map_err(|stopped| Untraced::from(stopped)) {
+        Ok(count) => finish(out, steps_end(count), ACCEPTED, count),
+        Err(e) => finish(out, steps_end(e.steps), u32::from(e.refusal), e.told),
+    }
 }
 
-// Their step lines: the count of these, or where a choice is refused. The last line is left to `close`.
+// Their step lines: the count of these, or where a choice is refused. The last line is left to `trace_steps`.
 pub fn put_step_lines(choices: &[u8], table: &[u32], out: &mut [u8]) -> Result<u32, Stopped>
     requires { (length table.now ≡ table_words) × (good_table table.now ≡ true) × ((bad_choice 1 (lines choices.now)).reply ≡ 0) × (longest_output ≤ length out.old) }
     ensures traced { ending (last (ran_of result).count (ran_of result).reply (ran_of result).count) out.new ≡ written (trace_from table.now (start_words table.now) 0 (choices_in (lines choices.now))) out.old }

@@ -16,7 +16,6 @@ pub returns-in-Ok-clause-counts : goal.returns-in-Ok-clause-counts
 returns-in-Ok-clause-counts c = counts _ _ _ _ _ c.in-Ok.ensures.traced
 
 pub returns-in-Err-clause-wrote : goal.returns-in-Err-clause-wrote
-returns-in-Err-clause-wrote c = whole _ _ (omega arith) _ _ _ (c.close.ensures ∙ c.in-Err.ensures.traced)
-
-pub returns-in-Err-clause-counts : goal.returns-in-Err-clause-counts
-returns-in-Err-clause-counts c = counts _ _ _ _ _ (c.close.ensures ∙ c.in-Err.ensures.traced)
+returns-in-Err-clause-wrote c =
+    let e = c.in-Err.ensures in
+    whole _ _ (omega arith) _ _ _ (rw c.from-in-Err.ensures at c.finish.ensures ∙ rw e.no_step at e.traced)
