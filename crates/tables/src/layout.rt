@@ -1,5 +1,6 @@
 // The words of a table: how many there are, and where each thing stands in them. Every function is lent the words as a slice, and not a type that says how many they are or that
-// they are good: docs/STATEMENTS.md names these functions, and a narrower argument would ask more of their callers. So it is with the words of a state.
+// they are good: docs/STATEMENTS.md names the public ones, and a narrower argument would ask more of their callers; a private one is lent what a public one was. So it is with the words
+// of a state.
 // And each place and each word has a function of its own, by its own name, though some are alike.
 ghost use Rattle.std.specs.Prelude.{◌≡◌, ◌≤◌, ◌<◌, length};
 ghost use Rattle.tables.specs.Layout.{table_words, agents, rows, count_place, start_place, row_place};

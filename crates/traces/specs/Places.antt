@@ -22,10 +22,9 @@ pub record Last : Type 0 where
 abbrev pub last : (steps reply told : ℕ) → Last
 last s r n = record { steps = s; reply = r; told = n }
 
--- a trace that ends tells the count of its steps
-abbrev pub last_of : Result ℕ Untraced → Last
-last_of (Ok n) = last n 0 n
-last_of (Err u) = last u.steps (number_of u.refusal) u.told
+-- where a refusal ends a trace
+abbrev pub last_of : Untraced → Last
+last_of u = last u.steps (number_of u.refusal) u.told
 
 -- the last line put after the step lines, which stand at the start of the buffer
 abbrev pub ending : Last → List ℕ → TraceOutcome
@@ -34,7 +33,7 @@ ending l out = placed (traced l.reply (last_line l.reply l.told)) (47 * l.steps)
 -- a trace that stands whole in the buffer; or one that a refusal ends, to which the last line is to be put
 abbrev pub so_far : Result TraceReply Untraced → List ℕ → TraceOutcome
 so_far (Ok q) out = trace_outcome q.reply q.length out
-so_far (Err u) out = ending (last_of (Err u)) out
+so_far (Err u) out = ending (last_of u) out
 
 -- a count of bytes at the start of a buffer, as a caller that lends that part has to know it
 pub record Counts (n : ℕ) (buffer : List ℕ) : Type 0 where
